@@ -1,7 +1,7 @@
 -- The lines of a board are within what a station's readings can show.
-use Rattle.std.{proofs.Common.{◌==◌, ℕ, ◌≤◌, List, [], ◌∷◌, map, inl, inr, refl, arith}, specs.List.All, proofs.lemmas.List.Elements.{All-nil, All-cons}}
+use Rattle.std.{proofs.Common.{◌==◌, ℕ, List, [], ◌∷◌, map, inl, inr, refl, arith}, specs.List.All, proofs.lemmas.List.Elements.{All-nil, All-cons}}
 use Rattle.energy_flow.specs.Flow.{Energy}
-use Rattle.ledger_model.{specs.declared.by_direction.ByDirection.ByDirection, specs.Periods.Periods, specs.Board.{Flowed, board_by}, specs.Content.Entry, specs.Energy.{all_pairs_by, flows_in_by, flows_of_by, energy_by, energy_in_by, energy_of_by, parts_of_both, parts_over, quarters_by}, specs.Parts.Part, proofs.PartLemmas.{parts_down, parts_up}, specs.Evse.{energy_at_by, evses, flows_at_by}, specs.declared.order.Order.Order, specs.declared.reading.Direction.Direction, specs.declared.reading.Direction.TheVariants.{Import, Export}, specs.Limits.Bounds, specs.Quarter.{IsPeriod, IsQuarterOf}, specs.BoardLaws.IsIn, proofs.Callers.rising-IsIn}
+use Rattle.ledger_model.{specs.declared.by_direction.ByDirection.ByDirection, specs.Periods.Periods, specs.Board.{Flowed, board_by}, specs.Content.Entry, specs.Energy.{all_pairs_by, flows_in_by, flows_of_by, energy_by, energy_in_by, parts_of_both, parts_over, quarters_by}, specs.Parts.Part, proofs.PartLemmas.{parts_down, parts_up}, specs.Evse.{evses, flows_at_by}, specs.declared.order.Order.Order, specs.declared.reading.Direction.Direction, specs.declared.reading.Direction.TheVariants.{Import, Export}, specs.Limits.Bounds, specs.Quarter.{IsPeriod, IsQuarterOf}, specs.BoardLaws.IsIn, proofs.Callers.rising-IsIn}
 use Rattle.station_ledger.{specs.Lines.{IsStationFlow, AreStationFlows, AreStationLines}, specs.Sums.AreAllowed, proofs.Timely.in_period, proofs.Bounded.{evse_le, few_station, own_within, part_le, IsWithin}}
 
 module _ (order : Order) (limits : Bounds) (es : List Entry) (within : AreAllowed order limits es) where

@@ -1,6 +1,6 @@
 -- The kinds of a transaction's live events: when they start and end, by the first, the last and the count of Started
 -- and Ended.
-use Rattle.std.{proofs.lemmas.Bool.Decides.nat_tests, proofs.Common.{◌≡◌, ◌==◌, ℕ, suc, ◌+◌, ◌-◌, true, false, cond, ◌&&◌, List, [], ◌∷◌, length, slice_get, refl, sym, ap, ◌∙◌, arith}, proofs.lemmas.Bool.eq-eqb, proofs.lemmas.Bool.Decides.Decides-eqb, specs.List.count_by, proofs.lemmas.List.Sums.sum_by-cons}
+use Rattle.std.{proofs.lemmas.Bool.Decides.nat_tests, proofs.Common.{◌≡◌, ℕ, suc, ◌+◌, ◌-◌, true, false, cond, ◌&&◌, List, [], ◌∷◌, length, slice_get, refl, ap, ◌∙◌, arith}, specs.List.count_by, proofs.lemmas.List.Sums.sum_by-cons}
 use Rattle.ledger_model.{specs.declared.kind.Kind.Kind, specs.declared.kind.Kind.TheVariants.{Started, Updated, Ended}, specs.Complete.{goes_on_and_ends, starts_and_ends}}
 use Rattle.station_ledger.specs.Standing.{is_started, is_ended, starts_and_ends_by}
 use Rattle.event_chain.specs.Kept.{is_end}

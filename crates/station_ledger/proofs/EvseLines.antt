@@ -1,5 +1,5 @@
 -- The lines of the EVSEs from their sums, number by number.
-use Rattle.std.{proofs.lemmas.Bool.Decides.nat_tests, proofs.Common.{◌≡◌, ◌==◌, ◌⊎◌, inl, inr, ⊎_elim, ℕ, zero, suc, ◌+◌, ◌<◌, ◌≤◌, nat_lt, Bool, true, false, cond, List, [], ◌∷◌, ◌++◌, length, map, refl, sym, ap, subst, ◌∙◌, arith}, specs.List.filter, proofs.lemmas.Bool.{eq-eqb, lt-ltb, le-ltb, ltb-true}, proofs.lemmas.Bool.Decides.Decides-eqb, proofs.lemmas.List.{append-nil, map-append}}
+use Rattle.std.{proofs.lemmas.Bool.Decides.nat_tests, proofs.Common.{◌≡◌, ◌==◌, ◌⊎◌, inl, inr, ℕ, zero, suc, ◌+◌, ◌<◌, ◌≤◌, nat_lt, Bool, true, false, cond, List, [], ◌∷◌, ◌++◌, length, map, refl, sym, ap, subst, ◌∙◌, arith}, specs.List.filter, proofs.lemmas.Bool.{lt-ltb, le-ltb}, proofs.lemmas.List.{append-nil, map-append}}
 use Rattle.ledger_model.{specs.declared.order.Order.Order, specs.declared.by_direction.ByDirection.ByDirection, specs.Board.Flowed, specs.BoardLaws.{AreRising, IsIn}, specs.Content.{Entry, live, transactions_of}, specs.Evse.{evse_of, evses, flows_at_by, transactions_at}, specs.Ranges.greatest_evse, proofs.EnergyLemmas.{evses_rise, evses_shown}}
 use Rattle.energy_flow.specs.Flow.{Energy}
 use Rattle.station_ledger.{specs.declared.totals.EvseSum.EvseSum, specs.Moved.sum_at, specs.Numbered.AreNumbered, specs.Sums.AreEvseSums, proofs.Numbered.evse_few}

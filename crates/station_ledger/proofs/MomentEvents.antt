@@ -1,11 +1,11 @@
 -- The readings by moment once an event's came or went.
-use Rattle.std.{proofs.Common.{◌≡◌, ◌==◌, ℕ, zero, suc, ◌≤◌, true, false, not, List, [], Option, Some, None, is_some, length, refl, sym, ap, subst, ◌∙◌, ⊎_elim, arith, vec_capacity}, specs.List.flat_map, specs.Str.bytes_eq, specs.Ordering.eq_by_cmp, proofs.lemmas.Bool.Decides.nat_tests, proofs.lemmas.Bool.{cases_eq, cases_Bool}, proofs.lemmas.Slice.Eq.bytes_eq-Decides}
+use Rattle.std.{proofs.Common.{◌≡◌, ◌==◌, ℕ, ◌≤◌, true, false, not, List, [], Option, Some, None, is_some, length, refl, sym, ap, subst, ◌∙◌, ⊎_elim, arith, vec_capacity}, specs.List.flat_map, specs.Str.bytes_eq, specs.Ordering.eq_by_cmp, proofs.lemmas.Bool.Decides.nat_tests, proofs.lemmas.Bool.{cases_eq, cases_Bool}, proofs.lemmas.Slice.Eq.bytes_eq-Decides}
 use Rattle.transaction_map.{specs.Map.id_cmp, proofs.Rising.equal_ids}
 use Rattle.event_chain.{specs.declared.row.TableRow.TableRow, specs.Table.{IsFresh, Table, row_of}}
 use Rattle.event_chain.specs.Table as table
 use Rattle.ledger_model.{specs.declared.reading.Direction.Direction, specs.Content.{Entry, live, live_of, transactions_of}, specs.InTime.in_time, specs.Limits.Bounds, specs.Ranges.most_event_readings}
 use Rattle.reading_index.{specs.Ranks.owner, specs.Timed.{Timed, AreRising, owned}}
-use Rattle.station_ledger.{specs.ByMoment.{live_readings, ranked, timed_of, AreByMoment, AreSlots, IsSlotGiven}, specs.declared.by_moment.ByMoment.ByMoment, proofs.MomentRanks.at, proofs.Moved.none_long}
+use Rattle.station_ledger.{specs.ByMoment.{live_readings, ranked, timed_of, AreByMoment, IsSlotGiven}, specs.declared.by_moment.ByMoment.ByMoment, proofs.MomentRanks.at, proofs.Moved.none_long}
 
 same_id : (u tx : List ℕ) → bytes_eq u tx ≡ true → u ≡ tx
 same_id u tx is = (bytes_eq-Decides u tx).0 is

@@ -1,5 +1,5 @@
 -- An index of readings, with some put in or taken out.
-use Rattle.std.{proofs.Common.{◌≡◌, ℕ, ◌+◌, ◌<◌, ◌≤◌, Bool, true, false, cond, not, ◌||◌, nat_lt, eqb, List, [], ◌∷◌, length, refl, sym, ap, ◌∙◌, arith}, specs.List.AllByRecursion, proofs.lemmas.Bool.Decides.nat_tests, proofs.lemmas.Bool.{eq-eqb, ne_eqb}}
+use Rattle.std.{proofs.Common.{◌≡◌, ℕ, ◌+◌, ◌<◌, ◌≤◌, true, false, not, eqb, List, [], ◌∷◌, length, refl, sym, ap, ◌∙◌, arith}, specs.List.AllByRecursion, proofs.lemmas.Bool.Decides.nat_tests}
 use Rattle.ledger_model.specs.InTime.{put_in_time}
 use Rattle.reading_index.{specs.Ranks.owner_of, specs.Timed.{Timed, has_rank, owned, without, AreAbove, AreRising}, proofs.Listed.filter-ranked}
 use Rattle.station_ledger.{specs.ByMoment.{ArePuttable, put_each, take_each}, specs.Runs.own_timed, proofs.MomentLists.{AreApart, behind_apart, each_put_each, other_apart, none_has, put_each-put, without_put}, proofs.MomentRanks.{at, has_owned, length-without, owned-put, owned-put_else, owned-without, owned-without_else, put-ranked}}

@@ -1,5 +1,5 @@
 -- The readings of an event listed by rank, one after the other.
-use Rattle.std.{proofs.Common.{◌≡◌, ℕ, zero, suc, ◌+◌, ◌^◌, ◌<◌, ◌≤◌, cond, not, List, [], ◌∷◌, ◌++◌, length, take, drop, get_or, refl, sym, ap, subst, ◌∙◌, arith}, specs.List.AllByRecursion, proofs.lemmas.Bool.Decides.nat_tests, proofs.lemmas.Bool.{lt-ltb, le-ltb}}
+use Rattle.std.{proofs.Common.{◌≡◌, ℕ, zero, suc, ◌+◌, ◌^◌, ◌<◌, ◌≤◌, List, [], ◌∷◌, ◌++◌, length, take, drop, get_or, refl, sym, ap, subst, ◌∙◌, arith}, specs.List.AllByRecursion, proofs.lemmas.Bool.Decides.nat_tests}
 use Rattle.ledger_model.{specs.Event.MeterReading, specs.InTime.put_in_time, specs.Ranges.most_event_readings, proofs.Callers.AreFrom}
 use Rattle.reading_index.{specs.Ranks.rank, specs.Timed.{Timed, from_on, in_front, AreAbove, AreRising, AreBelow}}
 use Rattle.station_ledger.{specs.ByMoment.ranked_from, proofs.Each.each_put, proofs.MomentLists.{from_after, none_has, AreApart, IsAfter}, proofs.MomentRanks.{at, length-put, put-ranked}}

@@ -1,7 +1,7 @@
 -- The readings of an event and of a transaction by rank.
-use Rattle.std.{proofs.Common.{◌≡◌, ℕ, ◌+◌, ◌*◌, ◌^◌, ◌<◌, ◌≤◌, Bool, true, false, cond, not, List, [], ◌∷◌, ◌++◌, length, map, refl, sym, ap, subst, ◌∙◌, ⊎_elim, eqb, nat_lt, bytes_eq, arith}, specs.List.{AllByRecursion, All, filter, flat_map, sum_by}, proofs.lemmas.Bool.Decides.nat_tests, proofs.lemmas.Bool.{cases_lt, cases_eq, eq-eqb, ne_eqb, lt-ltb, le-ltb, or_from, true≢false}, proofs.lemmas.Grind.flat_map-append, proofs.lemmas.List.{append-nil, map-append}, proofs.lemmas.List.Elements.recursion_from_All, proofs.lemmas.List.Sums.{sum_by-append, sum_by-cons}}
+use Rattle.std.{proofs.Common.{◌≡◌, ℕ, ◌+◌, ◌*◌, ◌^◌, ◌<◌, ◌≤◌, Bool, true, false, cond, not, List, [], ◌∷◌, ◌++◌, length, map, refl, sym, ap, subst, ◌∙◌, eqb, nat_lt, bytes_eq, arith}, specs.List.{AllByRecursion, All, filter, flat_map, sum_by}, proofs.lemmas.Bool.Decides.nat_tests, proofs.lemmas.Bool.{eq-eqb, ne_eqb}, proofs.lemmas.Grind.flat_map-append, proofs.lemmas.List.{append-nil, map-append}, proofs.lemmas.List.Elements.recursion_from_All, proofs.lemmas.List.Sums.{sum_by-append, sum_by-cons}}
 use Rattle.ledger_model.specs.BoardLaws as laws
-use Rattle.ledger_model.{specs.declared.order.Order.TheVariants.Moment, specs.declared.reading.Direction.Direction, specs.Content.{Entry, live, live_of}, specs.Deltas.{before_key, behind_key, own_events, IsOneMore}, specs.Energy.readings_by, specs.Event.{IsMeterReading, MeterReading, same_direction, toward}, specs.Gaps.numbers_of, specs.InTime.{in_time, put_in_time}, specs.ReadingOrder.{Numbered, numbered, numbered_by}, proofs.Bounds.AreEntries-filter, proofs.Callers.{AreEntries, AreForeign, AreOwn, IsEntry, few_toward, in_time-map, live_else, live_with, live_without, numbered_readings, own_before_key, own_behind_key, put-behind, put-front}}
+use Rattle.ledger_model.{specs.declared.order.Order.TheVariants.Moment, specs.declared.reading.Direction.Direction, specs.Content.{Entry, live, live_of}, specs.Deltas.{before_key, behind_key, own_events, IsOneMore}, specs.Energy.readings_by, specs.Event.{IsMeterReading, MeterReading, toward}, specs.Gaps.numbers_of, specs.InTime.{in_time, put_in_time}, specs.ReadingOrder.{Numbered, numbered, numbered_by}, proofs.Bounds.AreEntries-filter, proofs.Callers.{AreEntries, AreForeign, AreOwn, IsEntry, few_toward, in_time-map, live_else, live_with, live_without, numbered_readings, own_before_key, own_behind_key}}
 use Rattle.reading_index.{specs.Ranks.{number_of, owner, owner_of, rank}, specs.Timed.{Timed, has_rank, placed_at, without, AreAbove, AreRising}, specs.declared.placed.PlacedReading.PlacedReading}
 use Rattle.station_ledger.{proofs.Each.{each_append, each_in_time, each_put, each_then, each_toward}, specs.ByMoment.{bare, live_readings, put_each, ranked, ranked_from, take_each, timed_of}, specs.Runs.own_timed, specs.Listing.{placed, placed_by, placed_from}, proofs.MomentRanks.{at, number_of-rank, owner_of-rank, length-put_each, place_of-rank, put-ranked}}
 

@@ -1,5 +1,5 @@
 -- Numbers of entries that are in range: of a transaction, and of its EVSE.
-use Rattle.std.{proofs.Common.{ℕ, ◌<◌, ◌≤◌, Bool, true, false, not, cond, List, [], ◌∷◌, Option, Some, None, map, arith}, specs.List.{cons_option, filter, filter_map}, specs.Str.bytes_eq, specs.Prelude.IfSome}
+use Rattle.std.{proofs.Common.{ℕ, ◌<◌, ◌≤◌, Bool, not, List, [], ◌∷◌, Option, map, arith}, specs.List.{cons_option, filter, filter_map}, specs.Str.bytes_eq, specs.Prelude.IfSome}
 use Rattle.ledger_model.{specs.Board.last_or_zero, specs.Content.{Entry, live, live_of}, specs.Evse.{evse_of, first_or_zero}, specs.Gaps.numbers_of, specs.Ranges.{greatest_evse, sequence_end}, proofs.Callers.AreEntries}
 use Rattle.station_ledger.specs.Numbered.{AreNumbered}
 

@@ -1,5 +1,5 @@
 -- What reached events are allowed to be, and what an accepted command reaches.
-use Rattle.std.{proofs.Common.{◌≡◌, ℕ, suc, ◌+◌, ◌≤◌, cond, List, [], ◌∷◌, Some, length, refl, sym, ap, subst, ◌∙◌, arith}, specs.FinMap.find, specs.Ordering.is_eq, specs.declared.cmp.Ordering.Ordering, specs.declared.cmp.Ordering.TheVariants.{Less, Equal, Greater}}
+use Rattle.std.{proofs.Common.{◌≡◌, ℕ, suc, ◌+◌, ◌≤◌, List, [], ◌∷◌, Some, length, refl, sym, ap, subst, ◌∙◌, arith}, specs.FinMap.find}
 use Rattle.ledger_model.{specs.declared.answer.Answer.Answer, specs.declared.answer.Answer.TheVariants.Accepted, specs.declared.command.Command.Command, specs.declared.order.Order.Order, specs.Admissible.IsAdmissible, specs.Content.{Content, Entry, Stored, entries}, specs.Key.{KeyName, key_cmp}, specs.Laws.IsAccepted, specs.Limits.Bounds, specs.Ranges.{most_event_readings, most_events, most_readings, most_transactions}, specs.Step.{Reached, answer, content_after, events_after, step}, proofs.Callers.{AreEntries, AreKept-reached, figures_within, is_counted}, proofs.NumberLemmas.numbers-AreRising}
 use Rattle.event_chain.specs.Chains.{Chained, stored}
 use Rattle.station_ledger.{specs.declared.sums.Sums.Sums, specs.Kept.{CanDo, IsDone, IsKept, IsReady, content_in}, specs.Numbered.AreNumbered, specs.Sums.{AreAllowed, AreSummed, order_in}, proofs.Numbered.numbered, proofs.Timely.pairs_in_time}

@@ -1,6 +1,6 @@
 -- Rows of pairs that are small: what may be added to them, and taken out.
 use Rattle.std.{proofs.Common.{◌≡◌, ℕ, ◌+◌, ◌*◌, ◌<◌, ◌≤◌, List, [], ◌∷◌, ◌++◌, length, sym, ap, subst, ◌∙◌, arith, length-append}, proofs.lemmas.List.length-map, proofs.lemmas.List.Sums.sum_by-append}
-use Rattle.energy_flow.specs.Flow.{Energy, no_energy, CanPlus}
+use Rattle.energy_flow.specs.Flow.{Energy, CanPlus}
 use Rattle.ledger_model.{specs.Periods.Periods, specs.Board.Flowed, specs.ByDirection.{in_direction, flows_toward, CanPlusFlows, CanMinusFlows}, specs.declared.by_direction.ByDirection.ByDirection, specs.Energy.{Pair, difference, energy_over, quarter_of}, proofs.Callers.sum_by-map, proofs.SumLemmas.sum_by-none, specs.declared.reading.Direction.Direction, specs.declared.reading.Direction.TheVariants.{Import, Export}, specs.Ranges.{greatest_reading, most_readings}}
 use Rattle.quarter_table.{specs.Table.Table, specs.Rows.row_at, specs.Pairs.{row_of, rows_of, rows_with, rows_without, total}, proofs.Held.{few_rows, few_pairs, row_up_le, row_down_le, pair_counted, pair_held, last_pair}, proofs.Made.made_row, proofs.Several.{made_with, made_without}}
 use Rattle.station_ledger.{specs.declared.pairs.Way.TheVariants.{Coming, Going}, specs.Quarters.{IsDifference, AreRows, HasRoom, IsSumOf, IsTableMoved, quartered}}

@@ -1,5 +1,5 @@
 -- All sums after the pairs of one event came or went.
-use Rattle.std.{proofs.Common.{◌≡◌, ◌≤◌, ℕ, List, Option, None, Some, IfSome, sym, ap, subst, ◌∙◌, arith}, specs.FinMap.find}
+use Rattle.std.{proofs.Common.{◌≡◌, ℕ, List, Option, None, Some, IfSome, sym, ap, subst, ◌∙◌, arith}, specs.FinMap.find}
 use Rattle.energy_flow.specs.Flow.{Energy, plus}
 use Rattle.ledger_model.{specs.Periods.Periods, specs.ByDirection.{in_direction, in_each, plus_flows, minus_flows}, proofs.Directions.each_is, specs.declared.by_direction.ByDirection.ByDirection, specs.declared.order.Order.TheVariants.Sequence, specs.declared.reading.Direction.Direction, specs.declared.reading.Direction.TheVariants.{Import, Export}, specs.Content.Entry, specs.Energy.{Pair, energy_by, energy_of_by, flows_of_by}, specs.Key.KeyName, specs.Limits.Bounds}
 use Rattle.event_chain.{specs.Chains.{Chained, stored}, specs.declared.around.Sides.Sides}

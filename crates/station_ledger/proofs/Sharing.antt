@@ -1,5 +1,5 @@
 -- What a board finds of readings that are shared by time.
-use Rattle.std.{proofs.lemmas.Bool.Decides.nat_tests, proofs.Common.{◌≡◌, ℕ, ◌+◌, ◌==◌, ◌<◌, Bool, true, false, cond, T, List, [], ◌∷◌, ◌++◌, Option, None, Some, length, map, append-nil, refl, sym, ap, ◌∙◌, arith, slice_get, take, drop, not, is_some, append_assoc, ◌⊎◌, ⊎_elim}, specs.List.{AllByRecursion, filter, flat_map}, specs.FinMap.find, specs.FinMap.Entries.below_all, specs.Ordering.eq_by_cmp, specs.Prelude.slice_index, proofs.lemmas.Bool.ne_eqb, specs.Str.bytes_eq, proofs.lemmas.Grind.flat_map-append, proofs.lemmas.List.{flat_map_more, map-append, take_more}, proofs.lemmas.Option.{get_or_from_slice_get, slice_get_within}, proofs.lemmas.Slice.Eq.bytes_eq-Decides}
+use Rattle.std.{proofs.lemmas.Bool.Decides.nat_tests, proofs.Common.{◌≡◌, ℕ, ◌+◌, ◌<◌, Bool, true, cond, T, List, [], ◌∷◌, ◌++◌, Option, None, Some, length, map, append-nil, refl, sym, ap, ◌∙◌, arith, slice_get, take, drop, not, append_assoc, ◌⊎◌}, specs.List.{AllByRecursion, filter, flat_map}, specs.FinMap.find, specs.FinMap.Entries.below_all, specs.Prelude.slice_index, specs.Str.bytes_eq, proofs.lemmas.Grind.flat_map-append, proofs.lemmas.List.{flat_map_more, map-append, take_more}, proofs.lemmas.Option.{get_or_from_slice_get, slice_get_within}, proofs.lemmas.Slice.Eq.bytes_eq-Decides}
 use Rattle.std.specs.FinMap as finite
 use Rattle.event_chain.{specs.Table.{Table, row_of}, specs.Chains.{Chained, stored}, specs.Room.readings_under, proofs.Decided.key_test}
 use Rattle.ledger_model.{specs.InTime.in_time, specs.Limits.Bounds, specs.declared.order.Order.Order, specs.declared.order.Order.TheVariants.{Sequence, Moment}, specs.declared.reading.Direction.TheVariants.{Import, Export}, specs.Content.{Entry, live, live_of}, specs.Deltas.{across, pairs_between}, specs.Energy.{Pair, followed, parts_of, parts_over, readings_by}, specs.Entries.IsRising, specs.Event.{MeterReading, toward}, specs.Gaps.numbers_of, specs.Key.key_cmp, specs.declared.reading.Direction.Direction, proofs.Callers.{find_below, first, in_time-map, second}, specs.ByDirection.flows_toward, specs.Parts.Part, specs.declared.settle.Settle.Settle, specs.declared.settle.Settle.TheVariants.{Later, Closing, Even}}

@@ -1,5 +1,5 @@
 -- Pairs that go and pairs that come, while the others are kept, and what they move.
-use Rattle.std.{proofs.Common.{◌≡◌, ℕ, ◌+◌, ◌-◌, ◌*◌, ◌≤◌, List, [], ◌∷◌, ◌++◌, length, refl, sym, ap, ◌∙◌, arith, length-append}, specs.List.sum_by, proofs.lemmas.List.Sums.{sum_by-append, sum_by-cons}}
+use Rattle.std.{proofs.Common.{◌≡◌, ℕ, ◌+◌, ◌*◌, ◌≤◌, List, [], ◌∷◌, ◌++◌, length, refl, sym, ap, ◌∙◌, arith, length-append}, specs.List.sum_by, proofs.lemmas.List.Sums.{sum_by-append, sum_by-cons}}
 use Rattle.energy_flow.specs.Flow.{Energy, plus, minus, CanPlus, CanMinus}
 use Rattle.ledger_model.{proofs.EnergyLemmas.same_energy, specs.ByDirection.in_direction, specs.Periods.Periods, specs.Content.Entry, specs.Deltas.{IsOneMore, came_by, gone_by, kept_by}, specs.Energy.{Pair, difference, energy, energy_by, energy_of, energy_over, pairs, pairs_of}, specs.declared.order.Order.Order, specs.declared.order.Order.TheVariants.Sequence, specs.declared.reading.Direction.Direction, specs.declared.reading.Direction.TheVariants.{Import, Export}, specs.Limits.Bounds, specs.Ranges.{greatest_reading, most_readings}, proofs.Callers.{less_kept, more_kept, transaction_moved}}
 use Rattle.quarter_table.{specs.Table.Table, specs.Pairs.{rows_of, rows_with, total}, proofs.Several.{made_with, one_side, both_sides}, proofs.Made.made_alike}

@@ -1,9 +1,9 @@
 -- The lines of the transactions from what is kept of each.
-use Rattle.std.{proofs.lemmas.Bool.Decides.nat_tests, proofs.Common.{◌≡◌, ℕ, zero, suc, ◌+◌, ◌-◌, ◌<◌, ◌||◌, true, false, cond, T, List, [], ◌∷◌, ◌++◌, Some, is_some, unwrap_or, length, map, take, slice_get, refl, sym, ap, subst, ◌∙◌, arith}, specs.List.{AllByRecursion, filter, list_any}, specs.List.Sorted.IsStrictlySortedBy, specs.Str.bytes_eq, specs.Ordering.{eq_by_cmp, is_lt}, specs.declared.cmp.Ordering.TheVariants.Less, specs.FinMap.find, specs.FinMap.Entries.below_all, proofs.lemmas.List.map_more, proofs.lemmas.Option.{get_or_from_slice_get, slice_get_within}, proofs.lemmas.Slice.Eq.bytes_eq-Decides}
+use Rattle.std.{proofs.lemmas.Bool.Decides.nat_tests, proofs.Common.{◌≡◌, ℕ, zero, suc, ◌+◌, ◌-◌, ◌<◌, true, T, List, [], ◌∷◌, ◌++◌, Some, is_some, unwrap_or, length, map, take, slice_get, refl, sym, ap, subst, ◌∙◌, arith}, specs.List.{AllByRecursion, filter, list_any}, specs.List.Sorted.IsStrictlySortedBy, specs.Str.bytes_eq, specs.Ordering.{eq_by_cmp, is_lt}, specs.declared.cmp.Ordering.TheVariants.Less, specs.FinMap.find, specs.FinMap.Entries.below_all, proofs.lemmas.List.map_more, proofs.lemmas.Option.{get_or_from_slice_get, slice_get_within}, proofs.lemmas.Slice.Eq.bytes_eq-Decides}
 use Rattle.event_chain.specs.Chains.{Chained, stored}
 use Rattle.ledger_model.{specs.Board.last_or_zero, specs.Content.{Entry, live, transactions_of, has_transaction}, specs.declared.order.Order.Order, specs.Energy.flows_of_by, specs.Evse.first_or_zero, specs.Limits.Bounds, proofs.Rising.both, proofs.TransactionLemmas.{transactions-any, transactions_rise}}
 use Rattle.transaction_map.{specs.Map.{Mapped, AreRising, id_cmp}, proofs.Found.same_ids, proofs.Rising.{equal_ids, same_id}}
-use Rattle.station_ledger.{specs.declared.standing.Standing.Standing, specs.Standing.{kept_of, standing_by}, specs.Sums.AreStanding, proofs.EndNumbers.{kept_some, kept_none}, proofs.Moved.none_live}
+use Rattle.station_ledger.{specs.declared.standing.Standing.Standing, specs.Standing.{kept_of, standing_by}, specs.Sums.AreStanding, proofs.EndNumbers.{kept_some}, proofs.Moved.none_live}
 
 -- ids with nothing else
 abbrev bare : List (List ℕ) → List (List ℕ × Unit {0})

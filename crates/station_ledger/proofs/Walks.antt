@@ -1,5 +1,5 @@
 -- Pairs along readings, one reading after the other.
-use Rattle.std.{proofs.Common.{◌≡◌, ℕ, ◌+◌, ◌*◌, ◌<◌, ◌≤◌, true, false, cond, List, [], ◌∷◌, ◌++◌, length, drop, get_or, refl, sym, ap, ◌∙◌, arith, length-append}, proofs.lemmas.List.{map-append, append_assoc}, proofs.lemmas.List.Sums.sum_by-append}
+use Rattle.std.{proofs.Common.{◌≡◌, ℕ, ◌+◌, ◌*◌, ◌<◌, ◌≤◌, true, false, List, [], ◌∷◌, ◌++◌, length, drop, get_or, refl, sym, ap, ◌∙◌, arith, length-append}, proofs.lemmas.List.{map-append, append_assoc}, proofs.lemmas.List.Sums.sum_by-append}
 use Rattle.energy_flow.specs.Flow.{Energy, plus}
 use Rattle.ledger_model.{proofs.EnergyLemmas.same_energy, specs.Periods.Periods, specs.Board.Flowed, specs.Energy.{Pair, difference, energy_over, quarter_of}, specs.ByDirection.flows_toward, specs.declared.reading.Direction.Direction, specs.declared.reading.Direction.TheVariants.{Import, Export}, specs.Event.{MeterReading, same_direction, toward}, specs.Ranges.greatest_reading}
 use Rattle.quarter_table.{specs.declared.row.QuarterRow.QuarterRow, specs.Rows.{row_at, set_row, without_pair}, specs.Pairs.{rows_of, rows_without}, specs.Table.Table, proofs.Several.rows_with-append}

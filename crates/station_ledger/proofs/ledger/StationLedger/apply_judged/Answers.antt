@@ -1,4 +1,4 @@
-use Rattle.std.proofs.Common.{◌≡◌, rules, refl, sym, ap, subst, ◌∙◌}
+use Rattle.std.proofs.Common.{◌≡◌, rules, sym, ap, subst, ◌∙◌}
 use Rattle.ledger_model.{specs.declared.answer.Answer.TheVariants.Accepted, specs.Step.{Reached, answer}}
 use Rattle.station_ledger.{specs.Kept.{IsReady, content_in}, specs.Ledger.Ledger, proofs.Reaching.{can_do, kept_after}, proofs.ledger.StationLedger.apply_judged.Goals.{In-Accepted}}
 use Rattle.station_ledger.proofs.ledger.StationLedger.apply_judged.Goals as goal

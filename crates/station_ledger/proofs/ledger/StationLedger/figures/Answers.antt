@@ -1,7 +1,6 @@
 use Rattle.std.proofs.Common.{sym, ap, subst, ◌∙◌}
 use Rattle.energy_flow.specs.Flow.{Energy}
-use Rattle.ledger_model.{specs.Board.figures_by, specs.Content.entries, specs.declared.reading.Direction.TheVariants.{Import, Export}, specs.Limits.Bounds, specs.Figures.AreWithin, proofs.Callers.figures_within}
-use Rattle.event_chain.specs.Chains.{stored}
+use Rattle.ledger_model.{specs.Board.figures_by, specs.Content.entries, specs.declared.reading.Direction.TheVariants.{Import, Export}, specs.Figures.AreWithin, proofs.Callers.figures_within}
 use Rattle.station_ledger.{specs.Kept.content_in, specs.Ledger.Ledger, specs.Sums.order_in}
 use Rattle.station_ledger.proofs.ledger.StationLedger.figures.Goals as goal
 
