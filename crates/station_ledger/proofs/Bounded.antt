@@ -49,7 +49,8 @@ module _ (order : Order) where
       let ts = transactions_of (live es) in
       let one : (t : List ℕ) → length (pairs_by order d t es) ≤ sum_by (size d) (live_of t es) =
       λ t. omega (arith, few_followed (readings_by order d t es), length-in_order order (readings_of d t es), length-flat_map (λ (e : Entry). toward d e.1.event.readings) (live_of t es)) in
-      omega (arith, length-flat_map (λ t. pairs_by order d t es) ts, sum_by-le-sum_by (λ t. length (pairs_by order d t es)) (λ t. sum_by (size d) (live_of t es)) ts one, sum_by_transactions (size d) (live es))
+      let each = sum_by-le-sum_by (λ t. length (pairs_by order d t es)) (λ t. sum_by (size d) (live_of t es)) ts one in
+      omega (arith, length-flat_map (λ t. pairs_by order d t es) ts, each, sum_by_transactions (size d) (live es))
 
   -- there are no more pairs of both directions than readings
   pub few_pairs : (es : List Entry) → length (all_pairs_by order Import es) + length (all_pairs_by order Export es) ≤ readings_stored es
@@ -69,8 +70,8 @@ module _ (order : Order) where
   at_le : (d : Direction) (f : Pair → ℕ) (n : ℕ) (es : List Entry) → sum_by f (flat_map (λ t. pairs_by order d t es) (transactions_at n es)) ≤ sum_by f (all_pairs_by order d es)
   at_le d f n es =
       let ts = transactions_of (live es) in
-      omega (arith, sum_by-flat_map f (λ t. pairs_by order d t es) (transactions_at n es), sum_by-flat_map f (λ t. pairs_by order d t es) ts,
-      part_le (λ t. sum_by f (pairs_by order d t es)) (λ t. evse_of t es == n) ts)
+      let some = sum_by-flat_map f (λ t. pairs_by order d t es) (transactions_at n es) in let all = sum_by-flat_map f (λ t. pairs_by order d t es) ts in
+      omega (arith, some, all, part_le (λ t. sum_by f (pairs_by order d t es)) (λ t. evse_of t es == n) ts)
 
   pub evse_le : (d : Direction) (n : ℕ) (es : List Entry) → IsWithin (energy_at_by order d n es) (energy_by order d es)
   evse_le d n es = record { up = at_le d (λ p. (difference p).up) n es; down = at_le d (λ p. (difference p).down) n es }

@@ -43,8 +43,8 @@ few_each : {key : KeyName} {es : List Entry} (chains : Chained) (place : ByDirec
     → readings_at d chains key ≡ toward d event.event.readings
     → length (sides_across place d) + length (sides_between place chains key d) ≤ most_for (length (readings_at d chains key))
 few_each {key = key} {es = es} chains place event d is own =
-    omega (arith, few_moved d (before_key key es) (key, event) (behind_key key es), ap length (across_then place event d is), ap length (between_then chains place event d is own),
-    ap (λ rs. most_for (length rs)) own)
+    let gone = ap length (across_then place event d is) in let came = ap length (between_then chains place event d is own) in
+    omega (arith, few_moved d (before_key key es) (key, event) (behind_key key es), gone, came, ap (λ rs. most_for (length rs)) own)
 
 few_of : (n : ℕ) (event : Stored) (d : Direction) → length event.event.readings ≤ most_event_readings → n ≤ most_for (length (toward d event.event.readings)) → n ≤ most_event_readings + 2
 few_of n event d few le = omega (arith, le, most_le (length (toward d event.event.readings)), few_toward d event.event.readings, few)

@@ -40,8 +40,9 @@ both_alike : (period : Periods) (d : Direction) (all mine others theirs : List P
     → rows_of (two_ways period d all theirs) ≡ rows_of (quartered period d mine ++ rest_of period d theirs others)
 both_alike period d all mine others theirs split =
     made_alike (two_ways period d all theirs) (quartered period d mine ++ rest_of period d theirs others) (λ measure.
-    omega (arith, beside period d all theirs measure, split_quarters period d all mine others split measure,
-    sum_by-append measure (quartered period d mine) (rest_of period d theirs others), sum_by-append measure (quartered period d others) (quartered period (other d) theirs)))
+    let one = sum_by-append measure (quartered period d mine) (rest_of period d theirs others) in
+    let two = sum_by-append measure (quartered period d others) (quartered period (other d) theirs) in
+    omega (arith, beside period d all theirs measure, split_quarters period d all mine others split measure, one, two))
 
 few_beside : (period : Periods) (most : ℕ) (d : Direction) (mine others ps : List Pair)
     → (energy_over mine).up + (energy_over others).up ≤ greatest_reading * most
@@ -74,8 +75,9 @@ split_one d tx es f =
     let absent : list_any (bytes_eq tx) (map (λ (e : Entry). e.0.tx) (live es)) ≡ false → g tx ≡ 0 = λ none.
     ap (λ (xs : List Entry). sum_by f (followed (in_time (λ (r : MeterReading). r.moment) (flat_map (λ (e : Entry). toward d e.1.event.readings) xs))))
     (none_live tx es (sym (any-map tx (live es)) ∙ none)) in
-    omega (arith, sum_by-flat_map f (λ u. pairs_by Moment d u es) (transactions_of (live es)),
-    sum_by-flat_map f (λ u. pairs_by Moment d u es) (filter (λ u. not (bytes_eq tx u)) (transactions_of (live es))), sum_by_one g tx (map (λ (e : Entry). e.0.tx) (live es)) absent)
+    let whole = sum_by-flat_map f (λ u. pairs_by Moment d u es) (transactions_of (live es)) in
+    let rest = sum_by-flat_map f (λ u. pairs_by Moment d u es) (filter (λ u. not (bytes_eq tx u)) (transactions_of (live es))) in
+    omega (arith, whole, rest, sum_by_one g tx (map (λ (e : Entry). e.0.tx) (live es)) absent)
 
 -- The directions of a slot have other owners.
 pub sides_apart : (slot : ℕ) → owner slot Import ≡ owner slot Export → ⊥

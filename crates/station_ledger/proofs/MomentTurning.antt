@@ -47,8 +47,8 @@ sum_then Going es fs = refl
 pub room_for_slot : (way : Way) {less more : List Entry} {chains : Chained} {key : KeyName} {b : ByMoment} {period : Periods} {t : Table}
     → IsMove way less more chains key b period t → row_of key.tx b.slots.rows ≡ None → length b.slots.rows < b.slots.capacity
 room_for_slot Coming {less = less} {more = more} {key = key} is none =
-    grind (arith, nat_tests, transactions_more less more (before_key key less) (key, is.event) (behind_key key less) is.one, has_own key.tx (live less),
-    is.timed.slots.each key.tx, is.timed.slots.number, none, is.large.figures_within.transactions, is.timed.slots.room)
+    let n = transactions_more less more (before_key key less) (key, is.event) (behind_key key less) is.one in let s = is.timed.slots in
+    grind (arith, nat_tests, n, has_own key.tx (live less), s.each key.tx, s.number, none, is.large.figures_within.transactions, s.room)
 room_for_slot Going {less = less} {more = more} {key = key} is none =
     grind (arith, nat_tests, is.timed.slots.each key.tx, has_live less more (before_key key less) (key, is.event) (behind_key key less) is.one, none)
 
@@ -57,8 +57,8 @@ slots_more : (way : Way) {less more : List Entry} {chains : Chained} {key : KeyN
     → IsMove way less more chains key b period t → IsSlotGiven key.tx b.slots slots slot
     → length slots.rows ≡ length (transactions_of (live more))
 slots_more Coming {less = less} {more = more} {key = key} is given =
-    grind (arith, nat_tests, given.number, transactions_more less more (before_key key less) (key, is.event) (behind_key key less) is.one,
-    has_own key.tx (live less), is.timed.slots.each key.tx, is.timed.slots.number)
+    let n = transactions_more less more (before_key key less) (key, is.event) (behind_key key less) is.one in
+    grind (arith, nat_tests, given.number, n, has_own key.tx (live less), is.timed.slots.each key.tx, is.timed.slots.number)
 slots_more Going {less = less} {more = more} {key = key} is given =
     grind (arith, nat_tests, given.number, is.timed.slots.each key.tx, has_live less more (before_key key less) (key, is.event) (behind_key key less) is.one, is.timed.slots.number)
 

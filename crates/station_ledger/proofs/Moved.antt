@@ -75,11 +75,11 @@ module _ (order : Order) where
       let own = ap length (live_without es more front e back one) ∙ length-append (own_events tx front) (own_events tx back) in
       let with_it = ap length (live_with es more front e back one) ∙ length-append (own_events tx front) (e ∷ own_events tx back) in
       let there : has_transaction tx (live more) ≡ true = has_own tx (live more) ∙ ap not (ne_eqb (length (live_of tx more)) 0 (λ h. absurd (omega (arith, h, with_it)))) in
+      let n = counted (has_transaction tx (live es)) (length (transactions_of (live es))) (length (transactions_of (live more))) (transactions_more es more front e back one) in
       record {
         others = λ u apart. live_else es more front e back u one apart;
         events = omega (arith, events_more es more front e back one, live_kept tx es, live_kept tx more, own, with_it);
-        transactions = omega (arith, counted (has_transaction tx (live es)) (length (transactions_of (live es))) (length (transactions_of (live more))) (transactions_more es more front e back one),
-            one_kept tx es, one_kept tx more, ap (λ b. cond {A = ℕ} b 1 0) there);
+        transactions = omega (arith, n, one_kept tx es, one_kept tx more, ap (λ b. cond {A = ℕ} b 1 0) there);
         complete = omega (arith, complete_more es more front e back one, complete_kept tx es, complete_kept tx more);
         missing_are = omega (arith, missing_more es more front e back one, missing_kept tx es, missing_kept tx more);
         at_evse = λ n. omega (arith, evse_counts n es more front e back one, at_kept n tx es, at_kept n tx more, ap (λ b. cond {A = ℕ} b (cond (evse_of tx more == n) 1 0) 0) there);

@@ -117,8 +117,9 @@ module _ (order : Order) (limits : Bounds) (tx : List ℕ) (es new : List Entry)
         events = omega (arith, counts.events, before.figures_within.events, before.most_events_within, ap live_in is_is, live_kept order tx new, live_le tx new, after.figures_within.events);
         transactions = omega (arith, counts.transactions, before.figures_within.transactions, before.most_transactions_within, one_in_le is);
         complete = omega (arith, counts.complete, before.figures_within.complete, before.most_transactions_within, complete_in_le is);
-        missing_fit = omega (arith, counts.missing_are, before.figures_within.missing, before.most_transactions_within, ap missing_in is_is, missing_kept order tx new,
-            own_missing_le tx new, after.figures_within.missing);
+        missing_fit =
+            let now = ap missing_in is_is ∙ missing_kept order tx new in
+            omega (arith, counts.missing_are, before.figures_within.missing, before.most_transactions_within, now, own_missing_le tx new, after.figures_within.missing);
       }
 
       pub do_count : DoCount was (with_figures is f)

@@ -42,5 +42,13 @@ returns c =
     let missing = c.from-2.ensures ∙ ap (λ t. t.missing) s in
     let gaps = c.of.ensures ∙ c.in_ok-gaps.ensures in
     λ i. record {
-      tx = c.copied.ensures i; evse = (s i).evse; events = events i; first = first i; last = last i; complete = (s i).complete; missing = missing i; energy = (s i).energy; gaps = gaps i;
+      tx = c.copied.ensures i;
+      evse = (s i).evse;
+      events = events i;
+      first = first i;
+      last = last i;
+      complete = (s i).complete;
+      missing = missing i;
+      energy = (s i).energy;
+      gaps = gaps i;
     }
