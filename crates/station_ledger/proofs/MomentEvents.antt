@@ -70,7 +70,8 @@ module _ {limits : Bounds} {tx : List ℕ} {es new : List Entry} {b : ByMoment} 
         ∙ timed.held d u row (sym (given.others u other) ∙ now) ∙ sym (turned.same row.slot d u other))
         (cases_Bool (bytes_eq u tx));
     spare = λ d s fresh. ap (owned (owner s d)) e ∙ ⊎_elim
-        (λ (same : slot ≡ s). subst (λ x. owned (owner x d) next ≡ []) same (turned.own d ∙ none_timed slot d tx new (gone (row_of tx after.slots.rows) refl (λ row there at_slot. fresh tx row there (at_slot ∙ same)))))
+        (λ (same : slot ≡ s). subst (λ x. owned (owner x d) next ≡ []) same
+        (turned.own d ∙ none_timed slot d tx new (gone (row_of tx after.slots.rows) refl (λ row there at_slot. fresh tx row there (at_slot ∙ same)))))
         (λ (other : slot ≡ s → ⊥). turned.others d s other ∙ timed.spare d s (λ u row there at_s. ⊎_elim
         (λ (is : bytes_eq u tx ≡ true). other (sym (given.kept row (ap (λ t. row_of t b.slots.rows) (sym (same_id u tx is)) ∙ there)) ∙ at_s))
         (λ (apart_u : bytes_eq u tx ≡ false). fresh u row (left u apart_u ∙ given.others u apart_u ∙ there) at_s)

@@ -296,7 +296,8 @@ module _ (seq : ℕ) (others done left : List Timed) (x : Timed) (xs : List Time
     run_is = run_first;
     now_is =
         ap (λ l. put_each l others) (sym left_parts) ∙ put_each-append run rest others
-        ∙ ap (put_each rest) (ap (put_each run) others_are ∙ put_each-under run F B (over-under x.0 F run (in_front-under x.0 others) from_run.0) ∙ ap (λ l. F ++ l) (put_each-row run B run_rising run_in_front))
+        ∙ ap (put_each rest) (ap (put_each run) others_are ∙ put_each-under run F B (over-under x.0 F run (in_front-under x.0 others) from_run.0)
+        ∙ ap (λ l. F ++ l) (put_each-row run B run_rising run_in_front))
         ∙ put_each-under rest F (run ++ B) (over-under x.0 F rest (in_front-under x.0 others) from_run.1)
         ∙ ap (λ l. F ++ l) (put_each-under rest run B (over_run run rest (subst AreRising (sym left_parts) left_rising)));
     next_is = ap (put_each rest) others_are ∙ put_each-under rest F B (over-under x.0 F rest (in_front-under x.0 others) from_run.1);
@@ -367,16 +368,18 @@ module _ {way : Way} {seq : ℕ} {period : Periods} {d : Direction} {before afte
   pub run_moved : IsMoving period d all left from now rest t less more
       → AreSwapped period d (made r (gone_of way run)) (made r (came_of way run)) t then w v m
       → IsMoving period d all beyond from next rest then (plus less m.less) (plus more m.more)
-  run_moved h s = record {
-    rows = put_back period d r rest s.left (made r (came_of way run)) (gone_left period d r rest t h.rows s.taken.quarters) s.added.quarters
-        ∙ sym (all_rows r period d rest (came_of way run) r.next_is);
-    up = omega (arith, h.up, all_sum r (gone_of way run) r.now_is rise, all_sum r (came_of way run) r.next_is rise, ap (λ (e : Energy). e.up) s.taken.sum.is, ap (λ (e : Energy). e.up) s.added.sum.is);
-    down = omega (arith, h.down, all_sum r (gone_of way run) r.now_is fall, all_sum r (came_of way run) r.next_is fall, ap (λ (e : Energy). e.down) s.taken.sum.is, ap (λ (e : Energy). e.down) s.added.sum.is);
-    less_up = omega (arith, h.less_up, s.taken.sum.up, made_few r (gone_of way run), gone_few r, long, run_some r);
-    less_down = omega (arith, h.less_down, s.taken.sum.down, made_few r (gone_of way run), gone_few r, long, run_some r);
-    more_up = omega (arith, h.more_up, s.added.sum.up, made_few r (came_of way run), came_few r, long, run_some r);
-    more_down = omega (arith, h.more_down, s.added.sum.down, made_few r (came_of way run), came_few r, long, run_some r);
-  }
+  run_moved h s =
+      let gone = all_sum r (gone_of way run) r.now_is in let came = all_sum r (came_of way run) r.next_is in
+      record {
+        rows = put_back period d r rest s.left (made r (came_of way run)) (gone_left period d r rest t h.rows s.taken.quarters) s.added.quarters
+            ∙ sym (all_rows r period d rest (came_of way run) r.next_is);
+        up = omega (arith, h.up, gone rise, came rise, ap (λ (e : Energy). e.up) s.taken.sum.is, ap (λ (e : Energy). e.up) s.added.sum.is);
+        down = omega (arith, h.down, gone fall, came fall, ap (λ (e : Energy). e.down) s.taken.sum.is, ap (λ (e : Energy). e.down) s.added.sum.is);
+        less_up = omega (arith, h.less_up, s.taken.sum.up, made_few r (gone_of way run), gone_few r, long, run_some r);
+        less_down = omega (arith, h.less_down, s.taken.sum.down, made_few r (gone_of way run), gone_few r, long, run_some r);
+        more_up = omega (arith, h.more_up, s.added.sum.up, made_few r (came_of way run), came_few r, long, run_some r);
+        more_down = omega (arith, h.more_down, s.added.sum.down, made_few r (came_of way run), came_few r, long, run_some r);
+      }
 
 -- There is room for the pairs that come.
 module _ {o seq : ℕ} {period : Periods} {d : Direction} {all others : List Timed} {ps : List Pair} {base : Table}

@@ -316,12 +316,14 @@ module _ {way : Way} {less more : List Entry} {chains : Chained} {key : KeyName}
       rows_next = exchanged.rows ∙ sym (both_alike period d (all d will) (pairs_among (put_each (came_of way (its d)) (standing d))) (others d) (all (other d) theirs) (parts_will way d).split)
 
       -- what came and went of the energies
-      pub sums_moved : (plus (energy_by Moment d will) m.less ≡ plus (energy_by Moment d was) m.more) × (plus (energy_of_by Moment d key.tx will) m.less ≡ plus (energy_of_by Moment d key.tx was) m.more)
+      pub sums_moved : (plus (energy_by Moment d will) m.less ≡ plus (energy_by Moment d was) m.more)
+          × (plus (energy_of_by Moment d key.tx will) m.less ≡ plus (energy_of_by Moment d key.tx was) m.more)
       sums_moved =
           let rise : Pair → ℕ = λ p. (difference p).up in let fall : Pair → ℕ = λ p. (difference p).down in
           let old = parts_was way d in let new = parts_will way d in (
             same_energy _ _ (omega (arith, exchanged.up, old.split rise, new.split rise)) (omega (arith, exchanged.down, old.split fall, new.split fall)),
-            same_energy _ _ (omega (arith, exchanged.up, ap (sum_by rise) old.pairs, ap (sum_by rise) new.pairs)) (omega (arith, exchanged.down, ap (sum_by fall) old.pairs, ap (sum_by fall) new.pairs)),
+            same_energy _ _ (omega (arith, exchanged.up, ap (sum_by rise) old.pairs, ap (sum_by rise) new.pairs))
+                (omega (arith, exchanged.down, ap (sum_by fall) old.pairs, ap (sum_by fall) new.pairs)),
           )
 
       pub sums_few : (m.more.up ≤ greatest_reading * most_readings) × (m.more.down ≤ greatest_reading * most_readings)

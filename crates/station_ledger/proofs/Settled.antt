@@ -5,7 +5,7 @@ use Rattle.ledger_model.{specs.Periods.Periods, specs.ByDirection.{in_direction,
 use Rattle.event_chain.{specs.Chains.{Chained, stored}, specs.declared.around.Sides.Sides}
 use Rattle.quarter_table.specs.Table.{Table}
 use Rattle.transaction_map.specs.Map.{Mapped, id_cmp}
-use Rattle.station_ledger.{specs.declared.pairs.Way.Way, specs.declared.pairs.Way.TheVariants.{Coming, Going}, specs.declared.standing.Standing.Standing, specs.declared.sums.Sums.Sums, specs.ByMoment.AreByMoment, specs.Moved.{CanExchange, IsExchanged, IsMoved, flows_in}, specs.Quarters.{HasRoom, HoldsBoth, IsSumOf, IsTableMoved, both_length, both_quartered}, specs.Standing.{kept_of, kept_with}, specs.Sums.{AreAllowed, AreCounts, AreEvseSums, ArePairsMoved, AreQuarterRows, AreStanding, AreSummed, AreTurning, CanReplace, IsReplaced, order_in, order_of}, proofs.Bounded.{own_within, IsWithin}, proofs.Changes.{IsChange, turned_moved}, proofs.Stands.{own_flow, was_kept, place, stands, room_at, counts_at, sums_stand, have_room, do_count, counts_stand}, proofs.Trades.{station_exchanged, own_exchanged, may_exchange, is_left, holds, room, filled}}
+use Rattle.station_ledger.{specs.declared.pairs.Way.Way, specs.declared.pairs.Way.TheVariants.{Coming, Going}, specs.declared.standing.Standing.Standing, specs.declared.sums.Sums.Sums, specs.ByMoment.AreByMoment, specs.Moved.{CanExchange, IsExchanged, IsMoved, flows_in}, specs.Quarters.{HasRoom, HoldsBoth, IsSumOf, IsTableMoved, both_length, both_quartered}, specs.Standing.{kept_of, kept_with}, specs.Sums.{AreAllowed, AreCounts, AreEvseSums, ArePairsMoved, AreQuarterRows, AreStanding, AreSummed, AreTurning, CanReplace, IsReplaced, order_in, order_of}, proofs.Bounded.{own_within, IsWithin}, proofs.Changes.{IsChange, turned_moved}, proofs.Stands.{own_flow, was_kept, place, stands, room_at, counts_at, sums_stand, have_room, do_count, counts_stand}, proofs.Trades.{station_exchanged, own_exchanged, exchanged_once, holds, room, filled}}
 
 -- what follows from what holds of a value, if there is one
 pub if_some : {X : Type 0} {P Q : X → Type 0} (o : Option X) → ((x : X) → P x → Q x) → IfSome o P → IfSome o Q
@@ -68,11 +68,11 @@ module _ {limits : Bounds} {tx : List ℕ} {es new : List Entry} {sums mid : Sum
       → ((d : Direction) → IsWithin (was d) (energy_by (order_in sums) d es))
       → ((d : Direction) → plus (now d) (in_direction d less) ≡ plus (was d) (in_direction d more)) → CanExchange energies less more × (minus_flows (plus_flows energies more) less ≡ in_each now)
   exchange was now is most moved =
-      let may = λ (d : Direction). may_exchange (order_in sums) d limits es x.before (now d) (in_direction d less) (in_direction d more) (is d) (most d) (moved d) (x.energies.up_few d) (x.energies.down_few d) in
-      let left = λ (d : Direction). is_left (order_in sums) d limits es x.before (now d) (in_direction d less) (in_direction d more) (is d) (most d) (moved d) (x.energies.up_few d) (x.energies.down_few d) in
-      let imported = left Import in let exported = left Export in (
-        record { room = record { import = (may Import).0; export = (may Export).0 }; holds = record { import = (may Import).1; export = (may Export).1 } },
-        λ i. record { import = imported i; export = exported i },
+      let all = λ (d : Direction).
+      exchanged_once (order_in sums) d limits es x.before (now d) (in_direction d less) (in_direction d more) (is d) (most d) (moved d) (x.energies.up_few d) (x.energies.down_few d) in
+      let imported = all Import in let exported = all Export in (
+        record { room = record { import = imported.0.0; export = exported.0.0 }; holds = record { import = imported.0.1; export = exported.0.1 } },
+        λ i. record { import = imported.1 i; export = exported.1 i },
       )
 
   -- the station's energies

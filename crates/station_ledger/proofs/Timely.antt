@@ -11,7 +11,8 @@ timely-entries : (d : Direction) (es : List Entry) → AreEntries es → AreTime
 timely-entries d [] h = tt
 timely-entries d (e ∷ es) h =
     each_append (λ r. IsMoment r.moment) (toward d e.1.event.readings) (flat_map (λ f. toward d f.1.event.readings) es)
-    (each_toward (λ r. IsMoment r.moment) d e.1.event.readings (recursion_from_All (λ r. IsMoment r.moment) e.1.event.readings (λ k r lt. (h.0.event.readings k r lt).moment))) (timely-entries d es h.1)
+    (each_toward (λ r. IsMoment r.moment) d e.1.event.readings (recursion_from_All (λ r. IsMoment r.moment) e.1.event.readings (λ k r lt. (h.0.event.readings k r lt).moment)))
+    (timely-entries d es h.1)
 
 timely-in_order : (order : Order) (rs : List MeterReading) → AreTimely rs → AreTimely (in_order order (λ s. s.moment) rs)
 timely-in_order Sequence rs h = h

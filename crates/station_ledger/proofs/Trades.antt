@@ -61,24 +61,26 @@ module _ (order : Order) (d : Direction) (limits : Bounds) (es : List Entry) (be
   downs : is.down + less.down ≡ was.down + more.down
   downs = ap (λ (e : Energy). e.down) exchanged
 
-  pub may_exchange : CanPlus flow more × CanMinus (plus flow more) less
-  may_exchange = (
-    record {
-      up = omega (arith, up_was, most.up, (few_station order d limits es before).up, up_few);
-      down = omega (arith, down_was, most.down, (few_station order d limits es before).down, down_few);
-    },
-    record { up = omega (arith, up_was, ups); down = omega (arith, down_was, downs) },
-  )
-
-  pub is_left : minus (plus flow more) less ≡ is
-  is_left = same_energy _ _ (omega (arith, up_was, ups)) (omega (arith, down_was, downs))
+  pub exchanged_once : (CanPlus flow more × CanMinus (plus flow more) less) × (minus (plus flow more) less ≡ is)
+  exchanged_once =
+      let few = few_station order d limits es before in (
+        (
+          record { up = omega (arith, up_was, most.up, few.up, up_few); down = omega (arith, down_was, most.down, few.down, down_few) },
+          record { up = omega (arith, up_was, ups); down = omega (arith, down_was, downs) },
+        ),
+        same_energy _ _ (omega (arith, up_was, ups)) (omega (arith, down_was, downs)),
+      )
 
 -- pairs of both directions add up in each as those of that direction
 up_both : (k : Direction) (period : Periods) (ps : Direction → List Pair) → (in_direction k (total (both_quartered period ps))).up ≡ (energy_over (ps k)).up
-up_both k period ps = grind (arith, up_append k (quartered period Import (ps Import)) (quartered period Export (ps Export)), up_quartered k period Import (ps Import), up_quartered k period Export (ps Export))
+up_both k period ps =
+    let both = up_append k (quartered period Import (ps Import)) (quartered period Export (ps Export)) in
+    grind (arith, both, up_quartered k period Import (ps Import), up_quartered k period Export (ps Export))
 
 down_both : (k : Direction) (period : Periods) (ps : Direction → List Pair) → (in_direction k (total (both_quartered period ps))).down ≡ (energy_over (ps k)).down
-down_both k period ps = grind (arith, down_append k (quartered period Import (ps Import)) (quartered period Export (ps Export)), down_quartered k period Import (ps Import), down_quartered k period Export (ps Export))
+down_both k period ps =
+    let both = down_append k (quartered period Import (ps Import)) (quartered period Export (ps Export)) in
+    grind (arith, both, down_quartered k period Import (ps Import), down_quartered k period Export (ps Export))
 
 -- pairs of both directions that add up as those that go or come and those that are kept
 parted : (period : Periods) (all some rest : Direction → List Pair)
@@ -119,7 +121,9 @@ module _ (limits : Bounds) (tx : List ℕ) (es new : List Entry) (gone came kept
             both_quartered period kept,
             record {
               rows = left_rows;
-              room = omega (arith, n, long period Import (kept Import), long period Export (kept Export), count Import, count Export, few_pairs Sequence new, after.readings_within, taken.capacity, rows.room);
+              room =
+                  let long_import = long period Import (kept Import) in let long_export = long period Export (kept Export) in
+                  omega (arith, n, long_import, long_export, count Import, count Export, few_pairs Sequence new, after.readings_within, taken.capacity, rows.room);
               up = λ k. omega (arith, up_both k period kept, (kept_few k).up, before.most_readings_within, few);
               down = λ k. omega (arith, down_both k period kept, (kept_few k).down, before.most_readings_within, few);
               few = omega (arith, taken.capacity, rows.room, before.most_readings_within);

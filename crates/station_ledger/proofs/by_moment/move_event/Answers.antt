@@ -38,7 +38,8 @@ free_slot-requires-clause-lives c = λ comes none. some_live c.requires.2 comes 
 
 pub returns-clause-exchanged : goal.returns-clause-exchanged
 returns-clause-exchanged c less more is =
-    let all = all_then is (given (goal.at.returns-clause-exchanged c).After-slot_of-slot) c.list.ensures.items c.move_listed-import.ensures.moved c.list-2.ensures.items c.move_listed-export.ensures.moved in
+    let all = all_then is (given (goal.at.returns-clause-exchanged c).After-slot_of-slot) c.list.ensures.items c.move_listed-import.ensures.moved c.list-2.ensures.items
+    c.move_listed-export.ensures.moved in
     subst (λ (m : ByDirection Energy). IsExchanged Moment c.args.key.now.tx (by_way c.args.way less more) (stored c.args.chains.now) c.exchange_of.result.less m) (sym c.exchange_of.ensures.more)
     (subst (λ (m : ByDirection Energy). IsExchanged Moment c.args.key.now.tx (by_way c.args.way less more) (stored c.args.chains.now)
     m (record { import = c.move_listed-import.result.more; export = c.move_listed-export.result.more }))
