@@ -102,6 +102,6 @@ at_evse_le n es = fewer (λ t. evse_of t es == n) (transactions_of (live es))
 pub own_missing_le : (tx : List ℕ) (es : List Entry) → missing (numbers_of tx es) ≤ sum_by (λ t. missing (numbers_of t es)) (transactions_of (live es))
 own_missing_le tx es =
     let g : List ℕ → ℕ = λ t. missing (numbers_of t es) in
-    let absent : list_any (bytes_eq tx) (map (λ (e : Entry). e.0.tx) (live es)) ≡ false
-    → g tx ≡ 0 = λ none. ap (λ (xs : List Entry). missing (map (λ (e : Entry). e.0.seq) xs)) (none_live tx es (sym (any-map tx (live es)) ∙ none)) in
+    let absent : list_any (bytes_eq tx) (map (λ (e : Entry). e.0.tx) (live es)) ≡ false → g tx ≡ 0 = λ none.
+    ap (λ (xs : List Entry). missing (map (λ (e : Entry). e.0.seq) xs)) (none_live tx es (sym (any-map tx (live es)) ∙ none)) in
     omega (arith, sum_by_one g tx (map (λ (e : Entry). e.0.tx) (live es)) absent)

@@ -1,5 +1,5 @@
 -- Readings put into the gaps of others, run by run: what their pairs do to the periods, and to sums.
-use Rattle.std.{proofs.Common.{◌≡◌, ℕ, zero, suc, ◌+◌, ◌-◌, ◌*◌, ◌≤◌, Bool, true, false, nat_lt, List, [], ◌∷◌, ◌++◌, Option, None, length, slice_get, refl, sym, ap, ◌∙◌, arith, length-append}, specs.List.{AllByRecursion, sum_by}, proofs.lemmas.Bool.Decides.nat_tests, proofs.lemmas.List.{map-append, length-map}, proofs.lemmas.List.Elements.filter-append, proofs.lemmas.List.Sums.sum_by-append}
+use Rattle.std.{proofs.Common.{◌≡◌, ℕ, zero, suc, ◌+◌, ◌-◌, ◌*◌, ◌≤◌, Bool, true, false, nat_lt, List, [], ◌∷◌, ◌++◌, Option, length, slice_get, refl, sym, ap, ◌∙◌, arith, length-append}, specs.List.{AllByRecursion, sum_by}, proofs.lemmas.Bool.Decides.nat_tests, proofs.lemmas.List.{map-append, length-map}, proofs.lemmas.List.Elements.filter-append, proofs.lemmas.List.Sums.sum_by-append}
 use Rattle.energy_flow.specs.Flow.{Energy}
 use Rattle.ledger_model.{specs.Periods.Periods, specs.Board.Flowed, specs.Deltas.{pairs_between, first_reading, last_reading}, specs.Energy.{Pair, energy_over, followed}, specs.declared.reading.Direction.Direction, specs.Event.MeterReading, specs.InTime.{put_in_time, runs, runs_behind}, specs.Ranges.{greatest_reading, most_readings}, proofs.Callers.{AreForeign, AreOwn, followed_cut, put-behind, put-front, runs_own, runs_foreign}}
 use Rattle.quarter_table.{specs.Table.Table, specs.Pairs.{rows_of}, proofs.Made.made_alike}
@@ -116,11 +116,8 @@ fitting-beyond a (x ∷ xs) = grind (arith, fitting-beyond a xs)
 
 -- All that fit are in front of a row that begins there.
 pub fitting-front : (us xs : List Timed) → AreRising us → AreInFront (fitting (first_of us) xs) us
-fitting-front [] xs up = nothing (fitting None xs)
-  where
-    nothing : (ys : List Timed) → AreInFront ys []
-    nothing [] = tt
-    nothing (y ∷ ys) = (tt, nothing ys)
+fitting-front [] [] up = tt
+fitting-front [] (x ∷ xs) up = (tt, fitting-front [] xs up)
 fitting-front (u ∷ us) [] up = tt
 fitting-front (u ∷ us) (x ∷ xs) up = grind (arith, nat_tests, fitting-front (u ∷ us) xs up, above_less x.0 u.0 us)
 

@@ -1,7 +1,7 @@
 -- One more live event, or less, moves what its transaction counts for.
 use Rattle.std.{proofs.lemmas.Bool.Decides.nat_tests, proofs.Common.{◌≡◌, ◌==◌, ℕ, ◌+◌, ◌<◌, ◌≤◌, Bool, true, false, not, cond, ◌&&◌, List, [], ◌∷◌, Option, Some, None, length, map, refl, sym, ap, ◌∙◌, arith, length-append, slice_get, unwrap_or}, specs.List.{filter_map, flat_map}, proofs.lemmas.Bool.ne_eqb}
 use Rattle.energy_flow.specs.Flow.{Energy, no_energy, plus}
-use Rattle.ledger_model.{specs.declared.order.Order.Order, specs.declared.reading.Direction.Direction, specs.ByDirection.{in_direction, in_each, no_flows}, specs.declared.by_direction.ByDirection.ByDirection, proofs.Directions.each_is, specs.Event.{MeterReading, toward}, specs.Complete.{is_complete, starts_and_ends}, specs.Content.{Entry, live, live_of, transactions_of, has_transaction}, specs.Deltas.{IsOneMore, flow_if, own_events}, specs.Energy.{energy_of_by, energy_over, flows_of_by, followed}, specs.Evse.{evse_of, energy_at_by, first_or_zero}, specs.Gaps.{numbers_of, missing}, specs.InTime.in_order, proofs.Callers.{events_more, transactions_more, complete_more, missing_more, energy_at_more, evse_counts, live_with, live_without, live_else, order-nil}}
+use Rattle.ledger_model.{specs.declared.order.Order.Order, specs.declared.reading.Direction.Direction, specs.ByDirection.{in_direction, in_each}, specs.declared.by_direction.ByDirection.ByDirection, proofs.Directions.each_is, specs.Event.{MeterReading, toward}, specs.Complete.{is_complete, starts_and_ends}, specs.Content.{Entry, live, live_of, transactions_of, has_transaction}, specs.Deltas.{IsOneMore, flow_if, own_events}, specs.Energy.{energy_of_by, energy_over, flows_of_by, followed}, specs.Evse.{evse_of, energy_at_by, first_or_zero}, specs.Gaps.{numbers_of, missing}, specs.InTime.in_order, proofs.Callers.{events_more, transactions_more, complete_more, missing_more, energy_at_more, evse_counts, live_with, live_without, live_else, order-nil}}
 use Rattle.station_ledger.{specs.declared.standing.Standing.Standing, specs.Standing.{standing_with, kept_with, kept_of}, specs.Moved.{live_in, one_in, complete_in, missing_in, flows_in, one_at, flows_at, IsMoved}}
 
 -- a list without elements
@@ -22,16 +22,6 @@ none_live tx es none = grind (arith, nat_tests, none_long (live_of tx es), has_o
 kept_cases : (P : Option Standing → Type 0) (energy : ByDirection Energy) (tx : List ℕ) (es : List Entry) → (live_of tx es ≡ [] → P None)
     → (0 < length (live_of tx es) → P (Some (standing_with energy tx es))) → P (kept_with energy tx es)
 kept_cases P energy tx es none some = grind (arith, nat_tests, none_long (live_of tx es), none, some)
-
-none_if : (b : Bool) → flow_if b no_energy ≡ no_energy
-none_if true = refl
-none_if false = refl
-
-at_if : (d : Direction) (b : Bool) (e : ByDirection Energy) → in_direction d (cond b e no_flows) ≡ flow_if b (in_direction d e)
-at_if d b e = grind arith
-
-no_flow : (d : Direction) → in_direction d no_flows ≡ no_energy
-no_flow d = grind arith
 
 -- one transaction more, where it is new
 counted : (b : Bool) (n m : ℕ) → m ≡ cond b n (n + 1) → m + cond b 1 0 ≡ n + 1
@@ -65,8 +55,7 @@ module _ (order : Order) where
 
   pub flow_kept : (d : Direction) (n : ℕ) (tx : List ℕ) (es : List Entry) → in_direction d (flows_at n (kept_of order tx es)) ≡ flow_if (evse_of tx es == n) (energy_of_by order d tx es)
   flow_kept d n tx es = kept_cases (λ o. in_direction d (flows_at n o) ≡ flow_if (evse_of tx es == n) (energy_of_by order d tx es)) (flows_of_by order tx es) tx es
-      (λ none. no_flow d ∙ sym (ap (flow_if (evse_of tx es == n)) (energy_none d tx es none) ∙ none_if (evse_of tx es == n)))
-      (λ _. at_if d (evse_of tx es == n) (flows_of_by order tx es) ∙ ap (flow_if (evse_of tx es == n)) (toward_is d tx es))
+      (λ none. grind (arith, energy_none d tx es none)) (λ _. grind (arith, toward_is d tx es))
 
   -- one more live event
   pub moved_more : (es more front : List Entry) (e : Entry) (back : List Entry) → IsOneMore es more front e back → IsMoved order e.0.tx es more
@@ -102,7 +91,7 @@ module _ (order : Order) where
   -- the energies of what is kept
   pub flow_in_kept : (d : Direction) (tx : List ℕ) (es : List Entry) → in_direction d (flows_in (kept_of order tx es)) ≡ energy_of_by order d tx es
   flow_in_kept d tx es = kept_cases (λ o. in_direction d (flows_in o) ≡ energy_of_by order d tx es) (flows_of_by order tx es) tx es
-      (λ none. no_flow d ∙ sym (energy_none d tx es none)) (λ _. toward_is d tx es)
+      (λ none. grind (arith, energy_none d tx es none)) (λ _. toward_is d tx es)
 
 -- what is kept depends only on the transaction's live events
 kept_over : Order → List ℕ → List Entry → Option Standing
@@ -124,10 +113,6 @@ pub one_in_le : (o : Option Standing) → one_in o ≤ 1
 one_in_le None = omega arith
 one_in_le (Some s) = omega arith
 
-one_if : (b : Bool) → cond b 1 0 ≤ 1
-one_if true = omega arith
-one_if false = omega arith
-
 pub complete_in_le : (o : Option Standing) → complete_in o ≤ 1
 complete_in_le None = omega arith
 complete_in_le (Some s) = grind arith
@@ -136,12 +121,6 @@ pub one_at_le : (n : ℕ) (o : Option Standing) → one_at n o ≤ 1
 one_at_le n None = omega arith
 one_at_le n (Some s) = grind arith
 
--- at an EVSE there is no more than all
-flow_if_le : (d : Direction) (b : Bool) (e : ByDirection Energy) → ((in_direction d (cond b e no_flows)).up ≤ (in_direction d e).up)
-    × ((in_direction d (cond b e no_flows)).down ≤ (in_direction d e).down)
-flow_if_le d b e = grind arith
-
 pub flow_at_le : (d : Direction) (n : ℕ) (o : Option Standing) → ((in_direction d (flows_at n o)).up ≤ (in_direction d (flows_in o)).up)
     × ((in_direction d (flows_at n o)).down ≤ (in_direction d (flows_in o)).down)
-flow_at_le d n None = (omega arith, omega arith)
-flow_at_le d n (Some s) = flow_if_le d (s.evse == n) s.energy
+flow_at_le d n o = grind arith

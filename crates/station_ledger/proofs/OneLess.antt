@@ -29,10 +29,8 @@ back_rises (n ∷ k ∷ ns) m ms up = back_rises (k ∷ ns) m ms up.1
 
 -- Rising numbers without one of them rise.
 others_rise : (ns : List ℕ) (n : ℕ) (ms : List ℕ) → AreRising (ns ++ n ∷ ms) → AreRising (ns ++ ms)
-others_rise [] n [] up = tt
-others_rise [] n (m ∷ ms) up = up.1
-others_rise (k ∷ []) n [] up = tt
-others_rise (k ∷ []) n (m ∷ ms) up = (omega (arith, up.0, up.1.0), up.1.1)
+others_rise [] n ms up = grind (arith, up)
+others_rise (k ∷ []) n ms up = grind (arith, up)
 others_rise (k ∷ j ∷ ns) n ms up = (up.0, others_rise (j ∷ ns) n ms up.1)
 
 -- What is missing, by a number behind the first: it was missing, or it comes last.

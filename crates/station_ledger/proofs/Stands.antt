@@ -1,5 +1,5 @@
 -- A transaction with another standing, in all sums.
-use Rattle.std.{proofs.Common.{◌≡◌, ℕ, ◌+◌, ◌-◌, ◌<◌, ◌≤◌, Bool, true, false, cond, List, Option, Some, None, is_some, length, refl, sym, ap, subst, ◌∙◌, arith}, specs.Str.bytes_eq, specs.FinMap.find, specs.Ordering.eq_by_cmp, proofs.lemmas.Slice.Eq.bytes_eq-Decides, specs.Cmp.eq_by_cmp_equiv}
+use Rattle.std.{proofs.Common.{◌≡◌, ℕ, ◌+◌, ◌-◌, ◌<◌, ◌≤◌, false, cond, List, Option, Some, None, is_some, length, sym, ap, subst, ◌∙◌, arith}, specs.Str.bytes_eq, specs.FinMap.find, specs.Ordering.eq_by_cmp, proofs.lemmas.Slice.Eq.bytes_eq-Decides, specs.Cmp.eq_by_cmp_equiv}
 use Rattle.energy_flow.specs.Flow.{Energy, plus, minus, CanPlus, CanMinus}
 use Rattle.ledger_model.{proofs.EnergyLemmas.same_energy, specs.declared.figures.Figures.Figures, specs.ByDirection.in_direction, specs.Content.{Entry, live, transactions_of}, specs.Energy.energy_of_by, specs.Evse.{energy_at_by, transactions_at}, specs.declared.order.Order.Order, specs.declared.reading.Direction.Direction, specs.declared.reading.Direction.TheVariants.{Import, Export}, specs.Limits.Bounds, specs.Ranges.greatest_evse}
 use Rattle.transaction_map.{specs.Map.{Mapped, AreRising, id_cmp}, proofs.Rising.{equal_ids, id_total}, proofs.Found.{found_put, found_out, rising_put, rising_out, length_put, length_out}}
@@ -15,12 +15,10 @@ apart_ids : (u tx : List ℕ) → eq_by_cmp id_cmp u tx ≡ false → bytes_eq u
 apart_ids u tx e = grind (arith, e, bytes_eq-Decides u tx, (eq_by_cmp_equiv id_total).refl tx)
 
 is_one : (o : Option Standing) → one_in o ≡ cond (is_some o) 1 0
-is_one None = refl
-is_one (Some s) = refl
+is_one o = grind arith
 
 some_one : (o : Option Standing) → (o ≡ None → ⊥) → one_in o ≡ 1
-some_one None h = absurd (h refl)
-some_one (Some s) h = refl
+some_one o h = grind (arith, h)
 
 module _ (order : Order) (limits : Bounds) (tx : List ℕ) (es new : List Entry) (moved : IsMoved order tx es new)
     (before : AreAllowed order limits es) (after : AreAllowed order limits new) (was is : Option Standing)
@@ -38,10 +36,7 @@ module _ (order : Order) (limits : Bounds) (tx : List ℕ) (es new : List Entry)
     pub stands : (next : Mapped Standing) → next.rows ≡ keep tx is kept.rows → next.capacity ≡ kept.capacity → AreStanding order limits new next
     stands next rows same = record {
       each = λ u. ap (find id_cmp u) rows ∙ found_keep u tx is kept.rows
-          ∙ (elim (eq_by_cmp id_cmp u tx) as (λ b. eq_by_cmp id_cmp u tx ≡ b → cond b is (find id_cmp u kept.rows) ≡ kept_of order u new) [
-            | true ↦ λ e. is_is ∙ ap (λ t. kept_of order t new) (sym (equal_ids u tx e))
-            | false ↦ λ e. standing.each u ∙ sym (kept_same order u es new (moved.others u (apart_ids u tx e)))
-          ] refl);
+          ∙ grind (arith, is_is, standing.each u, kept_same order u es new, moved.others u, apart_ids u tx, equal_ids u tx);
       rising = subst (λ rs. AreRising rs) (sym rows) (rises is);
       number = ap length rows ∙ counted is is_is;
       room = same ∙ standing.room;
@@ -53,14 +48,9 @@ module _ (order : Order) (limits : Bounds) (tx : List ℕ) (es new : List Entry)
       was_one : one_in (kept_of order tx es) ≡ cond (is_some (find id_cmp tx kept.rows)) 1 0
       was_one = ap one_in (sym (standing.each tx)) ∙ is_one (find id_cmp tx kept.rows)
 
-      grown : (b : Bool) (n : ℕ) → cond b n (n + 1) + cond b 1 0 ≡ n + 1
-      grown true n = refl
-      grown false n = omega arith
-
       counted : (o : Option Standing) → o ≡ kept_of order tx new → length (keep tx o kept.rows) ≡ length (transactions_of (live new))
       counted None now = omega (arith, length_out tx kept.rows standing.rising, standing.number, moved.transactions, was_one, ap one_in now)
-      counted (Some s) now =
-          omega (arith, length_put tx s kept.rows standing.rising, standing.number, moved.transactions, was_one, ap one_in now, grown (is_some (find id_cmp tx kept.rows)) (length kept.rows))
+      counted (Some s) now = grind (arith, length_put tx s kept.rows standing.rising, standing.number, moved.transactions, was_one, ap one_in now)
 
   module _ (was_at : was ≡ kept_of order tx es) where
     flow_is : (d : Direction) → in_direction d (flows_in is) ≡ energy_of_by order d tx new

@@ -73,6 +73,4 @@ first_is_or (n ∷ ns) = refl
 pub last_is_or : (ns : List ℕ) → unwrap_or (slice_get ns (length ns - 1)) 0 ≡ last_or_zero ns
 last_is_or [] = refl
 last_is_or (n ∷ []) = refl
-last_is_or (n ∷ m ∷ ns) =
-    let at : length (n ∷ m ∷ ns) - 1 ≡ suc (length (m ∷ ns) - 1) = omega arith in
-    ap (λ k. unwrap_or (slice_get (n ∷ m ∷ ns) k) 0) at ∙ last_is_or (m ∷ ns)
+last_is_or (n ∷ m ∷ ns) = let at : length (n ∷ m ∷ ns) - 1 ≡ suc (length (m ∷ ns) - 1) = omega arith in ap (λ k. unwrap_or (slice_get (n ∷ m ∷ ns) k) 0) at ∙ last_is_or (m ∷ ns)

@@ -1,7 +1,7 @@
 -- Pairs along readings, one reading after the other.
-use Rattle.std.{proofs.Common.{◌≡◌, ℕ, ◌+◌, ◌*◌, ◌<◌, ◌≤◌, true, false, List, [], ◌∷◌, ◌++◌, length, drop, get_or, refl, sym, ap, ◌∙◌, arith, length-append}, proofs.lemmas.List.{map-append, append_assoc}, proofs.lemmas.List.Sums.sum_by-append}
+use Rattle.std.{proofs.Common.{◌≡◌, ℕ, ◌+◌, ◌*◌, ◌<◌, ◌≤◌, List, [], ◌∷◌, ◌++◌, length, drop, get_or, refl, sym, ap, ◌∙◌, arith, length-append}, proofs.lemmas.List.{map-append, append_assoc}, proofs.lemmas.List.Sums.sum_by-append}
 use Rattle.energy_flow.specs.Flow.{Energy, plus}
-use Rattle.ledger_model.{proofs.EnergyLemmas.same_energy, specs.Periods.Periods, specs.Board.Flowed, specs.Energy.{Pair, difference, energy_over, quarter_of}, specs.ByDirection.flows_toward, specs.declared.reading.Direction.Direction, specs.declared.reading.Direction.TheVariants.{Import, Export}, specs.Event.{MeterReading, same_direction, toward}, specs.Ranges.greatest_reading}
+use Rattle.ledger_model.{proofs.EnergyLemmas.same_energy, specs.Periods.Periods, specs.Board.Flowed, specs.Energy.{Pair, difference, energy_over, quarter_of}, specs.ByDirection.flows_toward, specs.declared.reading.Direction.Direction, specs.Event.{MeterReading, toward}, specs.Ranges.greatest_reading}
 use Rattle.quarter_table.{specs.declared.row.QuarterRow.QuarterRow, specs.Rows.{row_at, set_row, without_pair}, specs.Pairs.{rows_of, rows_without}, specs.Table.Table, proofs.Several.rows_with-append}
 use Rattle.station_ledger.{specs.declared.pairs.Way.Way, specs.declared.pairs.Way.TheVariants.{Coming, Going}, specs.Quarters.{DidMove, MayMove, quartered, rows_moved}, proofs.Rows.{room_fewer, rows_more, rows_less}}
 
@@ -25,16 +25,6 @@ first_and_rest (x ∷ left) rest r d some is after = λ i. sym is i ∷ sym afte
 pub empty : {X : Type 0} (xs : List X) → length xs < 1 → xs ≡ []
 empty [] h = refl
 empty (x ∷ xs) h = absurd (omega (arith, h))
-
-same_self : (d : Direction) → same_direction d d ≡ true
-same_self Import = refl
-same_self Export = refl
-
-not_same : (d e : Direction) → (e ≡ d → ⊥) → same_direction d e ≡ false
-not_same Import Import other = absurd (other refl)
-not_same Import Export other = refl
-not_same Export Import other = refl
-not_same Export Export other = absurd (other refl)
 
 -- those of the direction of the first one
 pub toward_first : (d : Direction) (left rest : List MeterReading) (r : MeterReading) → left ≡ r ∷ rest → r.direction ≡ d → toward d left ≡ r ∷ toward d rest
