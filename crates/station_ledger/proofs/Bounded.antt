@@ -1,5 +1,5 @@
 -- How much the pairs of a station, of a transaction and of an EVSE can be.
-use Rattle.std.{proofs.Common.{◌≡◌, ◌==◌, ℕ, map, ◌≤◌, ◌+◌, ◌*◌, Bool, false, not, cond, List, [], ◌∷◌, length, sym, ap, ◌∙◌, arith}, specs.List.{flat_map, filter, sum_by, list_any}, specs.Str.bytes_eq, proofs.lemmas.List.Concat.length-flat_map, proofs.lemmas.List.Sums.{sum_by-cons, sum_by-le-sum_by, count_by-le-length, length-filter}}
+use Rattle.std.{proofs.Common.{◌≡◌, ◌==◌, ℕ, map, ◌≤◌, ◌+◌, ◌*◌, Bool, false, not, cond, List, [], ◌∷◌, length, refl, sym, ap, ◌∙◌, arith}, specs.List.{flat_map, filter, sum_by, list_any}, specs.Str.bytes_eq, proofs.lemmas.List.Concat.length-flat_map, proofs.lemmas.List.Sums.{sum_by-cons, sum_by-le-sum_by, count_by-le-length, length-filter}}
 use Rattle.energy_flow.specs.Flow.{Energy}
 use Rattle.ledger_model.{specs.Content.{Entry, live, live_of, transactions_of}, specs.Energy.{Pair, all_pairs_by, difference, energy_by, energy_of_by, followed, pairs_by, readings_by, readings_of}, specs.Event.{MeterReading, toward}, specs.declared.order.Order.Order, specs.declared.reading.Direction.Direction, specs.declared.reading.Direction.TheVariants.{Import, Export}, specs.Limits.Bounds, specs.Ranges.{greatest_reading, most_readings}, specs.Evse.{energy_at_by, evse_of, transactions_at}, specs.Gaps.{numbers_of, missing}, specs.InTime.in_order, specs.Step.readings_stored, proofs.Callers.{length-in_order, order-nil, passed_sum, sum_by-flat_map}, proofs.FigureBounds.sum_by_transactions, proofs.SumsByTransaction.sum_by_one, proofs.TransactionLemmas.any-map}
 use Rattle.station_ledger.{specs.Sums.AreAllowed, proofs.Moved.none_live}
@@ -35,13 +35,13 @@ abbrev size : Direction → Entry → ℕ
 size d e = length (toward d e.1.event.readings)
 
 -- each reading is of one direction
-pub either : (rs : List MeterReading) → length (toward Import rs) + length (toward Export rs) ≤ length rs
-either [] = omega arith
-either (r ∷ rs) = grind (arith, either rs)
+pub both_ways : (rs : List MeterReading) → length (toward Import rs) + length (toward Export rs) ≡ length rs
+both_ways [] = refl
+both_ways (r ∷ rs) = grind (arith, both_ways rs)
 
 sizes : (es : List Entry) → sum_by (size Import) es + sum_by (size Export) es ≤ readings_stored es
 sizes [] = omega arith
-sizes (e ∷ es) = omega (arith, sum_by-cons (size Import) e es, sum_by-cons (size Export) e es, sum_by-cons (λ (f : Entry). length f.1.event.readings) e es, either e.1.event.readings, sizes es)
+sizes (e ∷ es) = omega (arith, sum_by-cons (size Import) e es, sum_by-cons (size Export) e es, sum_by-cons (λ (f : Entry). length f.1.event.readings) e es, both_ways e.1.event.readings, sizes es)
 
 module _ (order : Order) where
   few_of : (d : Direction) (es : List Entry) → length (all_pairs_by order d es) ≤ sum_by (size d) (live es)

@@ -1,7 +1,7 @@
 -- One more live event, or less, moves what its transaction counts for.
-use Rattle.std.{proofs.lemmas.Bool.Decides.nat_tests, proofs.Common.{◌≡◌, ◌==◌, ℕ, ◌+◌, ◌<◌, ◌≤◌, Bool, true, false, not, cond, ◌&&◌, List, [], ◌∷◌, Option, Some, None, length, map, refl, sym, ap, ◌∙◌, arith, length-append, slice_get, unwrap_or}, specs.List.{filter_map, flat_map}, proofs.lemmas.Bool.ne_eqb}
+use Rattle.std.{proofs.lemmas.Bool.Decides.nat_tests, proofs.Common.{◌≡◌, ◌==◌, ℕ, ◌<◌, ◌≤◌, true, false, not, cond, ◌&&◌, List, [], ◌∷◌, Option, Some, None, length, map, refl, sym, ap, ◌∙◌, arith, length-append, slice_get, unwrap_or}, specs.List.{filter_map, flat_map}, proofs.lemmas.Bool.ne_eqb}
 use Rattle.energy_flow.specs.Flow.{Energy, no_energy, plus}
-use Rattle.ledger_model.{specs.declared.order.Order.Order, specs.declared.reading.Direction.Direction, specs.ByDirection.{in_direction, in_each}, specs.declared.by_direction.ByDirection.ByDirection, proofs.Directions.each_is, specs.Event.{MeterReading, toward}, specs.Complete.{is_complete, starts_and_ends}, specs.Content.{Entry, live, live_of, transactions_of, has_transaction}, specs.Deltas.{IsOneMore, flow_if, own_events}, specs.Energy.{energy_of_by, energy_over, flows_of_by, followed}, specs.Evse.{evse_of, energy_at_by, first_or_zero}, specs.Gaps.{numbers_of, missing}, specs.InTime.in_order, proofs.Callers.{events_more, transactions_more, complete_more, missing_more, energy_at_more, evse_counts, live_with, live_without, live_else, order-nil}}
+use Rattle.ledger_model.{specs.declared.order.Order.Order, specs.declared.reading.Direction.Direction, specs.ByDirection.{in_direction, in_each}, specs.declared.by_direction.ByDirection.ByDirection, proofs.Directions.each_is, specs.Event.{MeterReading, toward}, specs.Complete.{is_complete, starts_and_ends}, specs.Content.{Entry, live, live_of, has_transaction}, specs.Deltas.{IsOneMore, flow_if, own_events}, specs.Energy.{energy_of_by, energy_over, flows_of_by, followed}, specs.Evse.{evse_of, energy_at_by, first_or_zero}, specs.Gaps.{numbers_of, missing}, specs.InTime.in_order, proofs.Callers.{events_more, transactions_more, complete_more, missing_more, energy_at_more, evse_counts, live_with, live_without, live_else, order-nil}}
 use Rattle.station_ledger.{specs.declared.standing.Standing.Standing, specs.Standing.{standing_with, kept_with, kept_of}, specs.Moved.{live_in, one_in, complete_in, missing_in, flows_in, one_at, flows_at, IsMoved}}
 
 -- a list without elements
@@ -22,10 +22,6 @@ none_live tx es none = grind (arith, nat_tests, none_long (live_of tx es), has_o
 kept_cases : (P : Option Standing → Type 0) (energy : ByDirection Energy) (tx : List ℕ) (es : List Entry) → (live_of tx es ≡ [] → P None)
     → (0 < length (live_of tx es) → P (Some (standing_with energy tx es))) → P (kept_with energy tx es)
 kept_cases P energy tx es none some = grind (arith, nat_tests, none_long (live_of tx es), none, some)
-
--- one transaction more, where it is new
-counted : (b : Bool) (n m : ℕ) → m ≡ cond b n (n + 1) → m + cond b 1 0 ≡ n + 1
-counted b n m h = grind (arith, h)
 
 module _ (order : Order) where
   pub live_kept : (tx : List ℕ) (es : List Entry) → live_in (kept_of order tx es) ≡ length (live_of tx es)
@@ -64,11 +60,10 @@ module _ (order : Order) where
       let own = ap length (live_without es more front e back one) ∙ length-append (own_events tx front) (own_events tx back) in
       let with_it = ap length (live_with es more front e back one) ∙ length-append (own_events tx front) (e ∷ own_events tx back) in
       let there : has_transaction tx (live more) ≡ true = has_own tx (live more) ∙ ap not (ne_eqb (length (live_of tx more)) 0 (λ h. absurd (omega (arith, h, with_it)))) in
-      let n = counted (has_transaction tx (live es)) (length (transactions_of (live es))) (length (transactions_of (live more))) (transactions_more es more front e back one) in
       record {
         others = λ u apart. live_else es more front e back u one apart;
         events = omega (arith, events_more es more front e back one, live_kept tx es, live_kept tx more, own, with_it);
-        transactions = omega (arith, n, one_kept tx es, one_kept tx more, ap (λ b. cond {A = ℕ} b 1 0) there);
+        transactions = grind (arith, transactions_more es more front e back one, one_kept tx es, one_kept tx more, there);
         complete = omega (arith, complete_more es more front e back one, complete_kept tx es, complete_kept tx more);
         missing_are = omega (arith, missing_more es more front e back one, missing_kept tx es, missing_kept tx more);
         at_evse = λ n. omega (arith, evse_counts n es more front e back one, at_kept n tx es, at_kept n tx more, ap (λ b. cond {A = ℕ} b (cond (evse_of tx more == n) 1 0) 0) there);

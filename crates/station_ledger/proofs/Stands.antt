@@ -14,12 +14,6 @@ found_keep u tx (Some s) rows = found_put u tx s rows
 apart_ids : (u tx : List ℕ) → eq_by_cmp id_cmp u tx ≡ false → bytes_eq u tx ≡ false
 apart_ids u tx e = grind (arith, e, bytes_eq-Decides u tx, (eq_by_cmp_equiv id_total).refl tx)
 
-is_one : (o : Option Standing) → one_in o ≡ cond (is_some o) 1 0
-is_one o = grind arith
-
-some_one : (o : Option Standing) → (o ≡ None → ⊥) → one_in o ≡ 1
-some_one o h = grind (arith, h)
-
 module _ (order : Order) (limits : Bounds) (tx : List ℕ) (es new : List Entry) (moved : IsMoved order tx es new)
     (before : AreAllowed order limits es) (after : AreAllowed order limits new) (was is : Option Standing)
     (is_is : is ≡ kept_of order tx new) where
@@ -30,7 +24,7 @@ module _ (order : Order) (limits : Bounds) (tx : List ℕ) (es new : List Entry)
     pub place : find id_cmp tx kept.rows ≡ None → (is ≡ None → ⊥) → length kept.rows < kept.capacity
     place none some =
         let gone : one_in (kept_of order tx es) ≡ 0 = ap one_in (sym (standing.each tx) ∙ none) in
-        let here : one_in (kept_of order tx new) ≡ 1 = ap one_in (sym is_is) ∙ some_one is some in
+        let here : one_in (kept_of order tx new) ≡ 1 = ap one_in (sym is_is) ∙ grind (arith, some) in
         omega (arith, standing.number, standing.room, moved.transactions, gone, here, after.figures_within.transactions)
 
     pub stands : (next : Mapped Standing) → next.rows ≡ keep tx is kept.rows → next.capacity ≡ kept.capacity → AreStanding order limits new next
@@ -46,7 +40,7 @@ module _ (order : Order) (limits : Bounds) (tx : List ℕ) (es new : List Entry)
       rises (Some s) = rising_put tx s kept.rows standing.rising
 
       was_one : one_in (kept_of order tx es) ≡ cond (is_some (find id_cmp tx kept.rows)) 1 0
-      was_one = ap one_in (sym (standing.each tx)) ∙ is_one (find id_cmp tx kept.rows)
+      was_one = ap one_in (sym (standing.each tx)) ∙ grind arith
 
       counted : (o : Option Standing) → o ≡ kept_of order tx new → length (keep tx o kept.rows) ≡ length (transactions_of (live new))
       counted None now = omega (arith, length_out tx kept.rows standing.rising, standing.number, moved.transactions, was_one, ap one_in now)
