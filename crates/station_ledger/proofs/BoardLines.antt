@@ -1,31 +1,23 @@
 -- The lines of a board are within what a station's readings can show.
-use Rattle.std.{proofs.Common.{◌==◌, ℕ, ◌≤◌, List, [], ◌∷◌, map, inl, inr, refl, arith}, specs.List.All, proofs.lemmas.List.Elements.{All-nil, All-cons}}
+use Rattle.std.{proofs.Common.{◌==◌, ℕ, List, [], ◌∷◌, map, inl, inr, refl, arith}, specs.List.All, proofs.lemmas.List.Elements.{All-nil, All-cons}}
 use Rattle.energy_flow.specs.Flow.{Energy}
-use Rattle.ledger_model.{specs.declared.by_direction.ByDirection.ByDirection, specs.Periods.Periods, specs.Board.{Flowed, board_by}, specs.Content.Entry, specs.Energy.{all_pairs_by, flows_in_by, flows_of_by, energy_by, energy_in_by, energy_of_by, parts_of_both, parts_over, quarters_by}, specs.Parts.Part, proofs.PartLemmas.{parts_down, parts_up}, specs.Evse.{energy_at_by, evses, flows_at_by}, specs.declared.order.Order.Order, specs.declared.reading.Direction.Direction, specs.declared.reading.Direction.TheVariants.{Import, Export}, specs.Limits.Bounds, specs.Quarter.{IsPeriod, IsQuarterOf}, specs.BoardLaws.IsIn, proofs.Callers.rising-IsIn}
-use Rattle.station_ledger.{specs.Lines.{IsStationFlow, AreStationFlows, AreStationLines}, specs.Sums.AreAllowed, proofs.Timely.in_period, proofs.Bounded.{few_up, few_down, evse_up_le, evse_down_le, own_up_le, own_down_le, part_le}}
+use Rattle.ledger_model.{specs.declared.by_direction.ByDirection.ByDirection, specs.Periods.Periods, specs.Board.{Flowed, board_by}, specs.Content.Entry, specs.Energy.{all_pairs_by, flows_in_by, flows_of_by, energy_by, energy_in_by, parts_of_both, parts_over, quarters_by}, specs.Parts.Part, proofs.PartLemmas.{parts_down, parts_up}, specs.Evse.{evses, flows_at_by}, specs.declared.order.Order.Order, specs.declared.reading.Direction.Direction, specs.declared.reading.Direction.TheVariants.{Import, Export}, specs.Limits.Bounds, specs.Quarter.{IsPeriod, IsQuarterOf}, specs.BoardLaws.IsIn, proofs.Callers.rising-IsIn}
+use Rattle.station_ledger.{specs.Lines.{IsStationFlow, AreStationFlows, AreStationLines}, specs.Sums.AreAllowed, proofs.Timely.in_period, proofs.Bounded.{evse_le, few_station, own_within, part_le, IsWithin}}
 
 module _ (order : Order) (limits : Bounds) (es : List Entry) (within : AreAllowed order limits es) where
-  small : (d : Direction) (e : Energy) → e.up ≤ (energy_by order d es).up → e.down ≤ (energy_by order d es).down → IsStationFlow e
-  small d e up down = record {
-    up = omega (arith, up, few_up order d limits es within, within.most_readings_within);
-    down = omega (arith, down, few_down order d limits es within, within.most_readings_within);
-  }
-
-  own_flow : (d : Direction) (tx : List ℕ) → IsStationFlow (energy_of_by order d tx es)
-  own_flow d tx = small d (energy_of_by order d tx es) (own_up_le order d tx es) (own_down_le order d tx es)
+  small : (d : Direction) {e : Energy} → IsWithin e (energy_by order d es) → IsStationFlow e
+  small d most = let few = few_station order d limits es within in record { up = omega (arith, most.up, few.up); down = omega (arith, most.down, few.down) }
 
   pub own_flows : (tx : List ℕ) → AreStationFlows (flows_of_by order tx es)
-  own_flows tx = record { import = own_flow Import tx; export = own_flow Export tx }
-
-  evse_flow : (d : Direction) (n : ℕ) → IsStationFlow (energy_at_by order d n es)
-  evse_flow d n = small d (energy_at_by order d n es) (evse_up_le order d n es) (evse_down_le order d n es)
+  own_flows tx = record { import = small Import (own_within order Import tx es); export = small Export (own_within order Export tx es) }
 
   quarter_flow : (d : Direction) (period : Periods) (q : ℕ) → IsStationFlow (energy_in_by order d period q es)
   quarter_flow d period q =
       let ts = parts_over period (all_pairs_by order d es) in
-      small d (energy_in_by order d period q es)
-      (let some = part_le (λ (t : Part). t.1.up) (λ t. t.0 == q) ts in let all = parts_up period (all_pairs_by order d es) in omega (arith, some, all))
-      (let some = part_le (λ (t : Part). t.1.down) (λ t. t.0 == q) ts in let all = parts_down period (all_pairs_by order d es) in omega (arith, some, all))
+      small d (record {
+        up = omega (arith, part_le (λ (t : Part). t.1.up) (λ t. t.0 == q) ts, parts_up period (all_pairs_by order d es));
+        down = omega (arith, part_le (λ (t : Part). t.1.down) (λ t. t.0 == q) ts, parts_down period (all_pairs_by order d es));
+      })
 
   all_lines : (f : ℕ → ByDirection Energy) (ns : List ℕ) → ((n : ℕ) → AreStationFlows (f n)) → All (λ line. AreStationFlows line.1) (map {B = Flowed} (λ n. (n, f n)) ns)
   all_lines f [] each = All-nil (λ line. AreStationFlows line.1)
@@ -38,7 +30,7 @@ module _ (order : Order) (limits : Bounds) (es : List Entry) (within : AreAllowe
   -- no line has more than the readings of a station can show, and each period has the given length
   pub lines_within : (period : Periods) → IsPeriod period.length → AreStationLines period (board_by order period es).evses (board_by order period es).quarters
   lines_within period is = record {
-    evse_flows = all_lines (λ n. flows_at_by order n es) (evses es) (λ n. record { import = evse_flow Import n; export = evse_flow Export n });
+    evse_flows = all_lines (λ n. flows_at_by order n es) (evses es) (λ n. record { import = small Import (evse_le order Import n es); export = small Export (evse_le order Export n es) });
     quarter_flows = all_lines (λ q. flows_in_by order period q es) (quarters_by order period es) (λ q. record { import = quarter_flow Import period q; export = quarter_flow Export period q });
     own_quarters =
         own_lines (λ q. flows_in_by order period q es) period.length (quarters_by order period es)

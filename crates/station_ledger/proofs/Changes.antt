@@ -1,6 +1,6 @@
 -- What an event that comes or goes changes: the pairs of each direction that go and come, and what its transaction
 -- counts for.
-use Rattle.std.proofs.Common.{◌≡◌, ℕ, ◌+◌, ◌≤◌, zero, suc, List, [], ◌∷◌, Option, length, refl, sym, ap, subst, ◌∙◌, arith}
+use Rattle.std.proofs.Common.{◌≡◌, ℕ, ◌+◌, ◌≤◌, zero, suc, List, Option, length, sym, ap, subst, ◌∙◌, arith}
 use Rattle.ledger_model.{specs.declared.order.Order.Order, specs.declared.order.Order.TheVariants.Sequence, specs.declared.reading.Direction.Direction, specs.declared.reading.Direction.TheVariants.{Import, Export}, specs.Content.{Entry, Stored}, specs.ByDirection.in_direction, specs.declared.by_direction.ByDirection.ByDirection, specs.Deltas.{across, pairs_between, before_key, behind_key, came_by, gone_by, kept_by, if_read, most_for}, specs.Energy.Pair, specs.Event.{MeterReading, toward}, specs.Key.KeyName, specs.Limits.Bounds, specs.Ranges.most_event_readings, proofs.Callers.{few_moved, few_toward}}
 use Rattle.event_chain.{specs.Chains.{Chained, stored}, specs.Room.readings_under, specs.Sides.{AreSides, side_if}, specs.declared.around.Sides.Sides}
 use Rattle.station_ledger.{specs.declared.pairs.Way.Way, specs.declared.pairs.Way.TheVariants.{Coming, Going}, specs.Moved.IsMoved, specs.Quarters.{both_length, readings_at}, specs.Runs.by_way, specs.Spent.most_at, specs.Sides.{has_some, sides_across, sides_between}, specs.Sums.{AreAllowed, IsTurning}, proofs.Moved.{moved_more, moved_back}, proofs.Trades.{IsTraded, traded}}
@@ -17,12 +17,10 @@ pub record IsChange (limits : Bounds) (tx : List ℕ) (es new : List Entry) (gon
 
 -- sides that are asked for only where there is a reading
 across_if : (rs : List MeterReading) (b a : Option MeterReading) → across (side_if (has_some rs) b) (side_if (has_some rs) a) ≡ if_read rs (across b a)
-across_if [] b a = refl
-across_if (r ∷ rs) b a = refl
+across_if rs b a = grind arith
 
 between_if : (rs : List MeterReading) (b a : Option MeterReading) → pairs_between (side_if (has_some rs) b) rs (side_if (has_some rs) a) ≡ if_read rs (pairs_between b rs a)
-between_if [] b a = refl
-between_if (r ∷ rs) b a = refl
+between_if rs b a = grind arith
 
 most_le : (n : ℕ) → most_for n ≤ n + 2
 most_le zero = omega arith
@@ -45,13 +43,8 @@ few_each : {key : KeyName} {es : List Entry} (chains : Chained) (place : ByDirec
     → readings_at d chains key ≡ toward d event.event.readings
     → length (sides_across place d) + length (sides_between place chains key d) ≤ most_for (length (readings_at d chains key))
 few_each {key = key} {es = es} chains place event d is own =
-    omega (
-      arith,
-      few_moved d (before_key key es) (key, event) (behind_key key es),
-      ap length (across_then place event d is),
-      ap length (between_then chains place event d is own),
-      ap (λ rs. most_for (length rs)) own,
-    )
+    let gone = ap length (across_then place event d is) in let came = ap length (between_then chains place event d is own) in
+    omega (arith, few_moved d (before_key key es) (key, event) (behind_key key es), gone, came, ap (λ rs. most_for (length rs)) own)
 
 few_of : (n : ℕ) (event : Stored) (d : Direction) → length event.event.readings ≤ most_event_readings → n ≤ most_for (length (toward d event.event.readings)) → n ≤ most_event_readings + 2
 few_of n event d few le = omega (arith, le, most_le (length (toward d event.event.readings)), few_toward d event.event.readings, few)
@@ -65,8 +58,7 @@ abbrev pub came_sides : Way → ByDirection Sides → Chained → KeyName → Di
 came_sides way place chains key d = by_way way (sides_between place chains key d) (sides_across place d)
 
 both_long : (way : Way) (ps qs : List Pair) → length (by_way way ps qs) + length (by_way way qs ps) ≡ length ps + length qs
-both_long Coming ps qs = refl
-both_long Going ps qs = omega arith
+both_long way ps qs = grind arith
 
 module _ {tx : List ℕ} {es : List Entry} {chains : Chained} {key : KeyName} {place : ByDirection Sides} (tx_is : tx ≡ key.tx) where
   -- only the live events of the transaction change

@@ -1,7 +1,7 @@
 -- What each command leaves for the sums to do.
 use Rattle.std.{proofs.Common.{not, IfSome, ◌≡◌, ◌==◌, ◌&&◌, ℕ, ◌+◌, ◌<◌, ◌≤◌, Bool, true, false, cond, List, Option, Some, None, map, length, refl, sym, ap, subst, ◌∙◌, arith}, specs.List.{filter, filter_map, flat_map, count_by, sum_by}, specs.FinMap.find}
 use Rattle.std.specs.FinMap as finite
-use Rattle.ledger_model.{specs.declared.command.Command.Command, specs.declared.command.Command.TheVariants.{Deliver, Void, Restore, Erase}, specs.declared.order.Order.Order, specs.declared.order.Order.TheVariants.{Sequence, Moment}, specs.Complete.starts_and_ends, specs.Content.{Entry, Stored, live, transactions_of}, specs.ByDirection.{in_direction, in_each}, specs.declared.by_direction.ByDirection.ByDirection, specs.Deltas.{IsOneMore, before_key, behind_key, own_events, most_for}, specs.Energy.{energy_over, followed}, specs.Event.{EventContent, MeterReading, toward}, specs.declared.reading.Direction.Direction, specs.declared.reading.Direction.TheVariants.{Import, Export}, specs.Evse.first_or_zero, specs.Gaps.missing, specs.InTime.{in_order, in_time}, specs.Key.{KeyName, key_cmp}, specs.Limits.Bounds, specs.Ranges.most_event_readings, specs.Step.{marked, marked_at, events_after}, proofs.Callers.{delivered_more, restored_more, voided_less, erased_same, entries_after_is, voided_delivered, voided_restored, voided_voided, voided_erased}, proofs.LedgerLemmas.inserted_there}
+use Rattle.ledger_model.{specs.Entries.entries_after, specs.declared.command.Command.Command, specs.declared.command.Command.TheVariants.{Deliver, Void, Restore, Erase}, specs.declared.order.Order.Order, specs.declared.order.Order.TheVariants.{Sequence, Moment}, specs.Complete.starts_and_ends, specs.Content.{Entry, Stored, live, transactions_of}, specs.ByDirection.{in_direction, in_each}, specs.declared.by_direction.ByDirection.ByDirection, specs.Deltas.{IsOneMore, before_key, behind_key, own_events, most_for}, specs.Energy.{energy_over, followed}, specs.Event.{EventContent, MeterReading, toward}, specs.declared.reading.Direction.Direction, specs.declared.reading.Direction.TheVariants.{Import, Export}, specs.Evse.first_or_zero, specs.Gaps.missing, specs.InTime.{in_order, in_time}, specs.Key.{KeyName, key_cmp}, specs.Limits.Bounds, specs.Ranges.most_event_readings, specs.Step.{marked, marked_at, events_after}, proofs.Callers.{delivered_more, restored_more, voided_less, erased_same, entries_after_is, voided_delivered, voided_restored, voided_voided, voided_erased}, proofs.LedgerLemmas.inserted_there}
 use Rattle.event_chain.{specs.declared.answers.Found.TheVariants.{Live, Voided}, specs.Chains.{Chained, stored}, specs.Room.{found_of, readings_under}, specs.Sides.AreSides, specs.declared.around.Sides.Sides}
 use Rattle.quarter_table.specs.Pairs.{rows_of}
 use Rattle.station_ledger.{specs.declared.by_moment.ByMoment.ByMoment, specs.declared.pairs.Way.Way, specs.declared.pairs.Way.TheVariants.{Coming, Going}, specs.declared.sums.Sums.Sums, specs.ByMoment.{AreByMoment, ranked}, specs.Kept.{CanDo, voided_in}, specs.Quarters.{HasEvent, both_quartered, readings_at}, specs.Sides.has_some, specs.Spent.{most_in_runs, most_spent, most_turned, most_under}, specs.Sums.{AreAllowed, AreSummed, AreTurning, IsTurning, order_in}, proofs.Moved.kept_same}
@@ -12,17 +12,17 @@ pub record IsFound (o : Option Stored) (voided : Bool) : Type 0 where
   pub is : o ≡ Some event
   pub marked_is : event.voided ≡ voided
 
-pub found_voided : (o : Option Stored) → found_of o ≡ Some Voided → IsFound o true
-found_voided None h = cc
-found_voided (Some s) h = record { event = s; is = refl; marked_is = elim s.voided as (λ b. Some (cond b Voided Live) ≡ Some Voided → b ≡ true) [ true ↦ λ _. refl | false ↦ λ f. cc ] h }
-
-pub found_live : (o : Option Stored) → found_of o ≡ Some Live → IsFound o false
-found_live None h = cc
-found_live (Some s) h = record { event = s; is = refl; marked_is = elim s.voided as (λ b. Some (cond b Voided Live) ≡ Some Live → b ≡ false) [ true ↦ λ f. cc | false ↦ λ _. refl ] h }
+pub found : (o : Option Stored) (voided : Bool) → found_of o ≡ Some (cond voided Voided Live) → IsFound o voided
+found None voided h = cc
+found (Some s) voided h = record { event = s; is = refl; marked_is = grind (arith, h) }
 
 -- how it is found among the entries
 listed : (old : Chained) (key : KeyName) (o : Option Stored) → finite.get old.events key ≡ o → find key_cmp key (stored old) ≡ o
 listed old key o h = sym (finite.get-entries old.events key) ∙ h
+
+-- the entries after a command
+entries_then : (old new : Chained) (command : Command) → new.events ≡ events_after old.events command → stored new ≡ entries_after (stored old) command
+entries_then old new command is = ap finite.entries is ∙ entries_after_is old.events command
 
 -- a delivered event is under its key
 pub delivered_there : (old new : Chained) (key : KeyName) (event : EventContent) → new.events ≡ events_after old.events (Deliver key event) → HasEvent key event new
@@ -65,7 +65,7 @@ module _ (old new : Chained) (key : KeyName) (place : ByDirection Sides) (has : 
       turns can (record {
         event = s;
         one = subst (λ es. IsOneMore (stored old) es (before_key key (stored old)) (key, s) (behind_key key (stored old)))
-            (sym (ap finite.entries is ∙ entries_after_is old.events (Deliver key event)))
+            (sym (entries_then old new (Deliver key event) is))
             (delivered_more (stored old) key event (finite.entries_sorted old.events) (listed old key None can.ready.0));
         there = delivered_there old new key event is;
         sides = sides_then event.readings has_is;
@@ -76,10 +76,10 @@ module _ (old new : Chained) (key : KeyName) (place : ByDirection Sides) (has : 
   pub restored : new.events ≡ events_after old.events (Restore key) → CanDo (Restore key) old sums
       → ((d : Direction) → has d ≡ has_some (readings_at d old key)) → AreTurning Coming (stored old) new key place sums
   restored is can has_is =
-      let f = found_voided (finite.get old.events key) can.ready in let s : Stored = record { event = f.event.event; voided = false } in
+      let f = found (finite.get old.events key) true can.ready in let s : Stored = record { event = f.event.event; voided = false } in
       turns can (record {
         event = s;
-        one = subst (λ es. IsOneMore (stored old) es (before_key key (stored old)) (key, s) (behind_key key (stored old))) (sym (ap finite.entries is ∙ entries_after_is old.events (Restore key)))
+        one = subst (λ es. IsOneMore (stored old) es (before_key key (stored old)) (key, s) (behind_key key (stored old))) (sym (entries_then old new (Restore key) is))
             (restored_more (stored old) key f.event (finite.entries_sorted old.events) (listed old key (Some f.event) f.is) f.marked_is);
         there = marked_there old new key false true is f;
         sides = sides_found f has_is;
@@ -90,10 +90,10 @@ module _ (old new : Chained) (key : KeyName) (place : ByDirection Sides) (has : 
   pub voided : new.events ≡ events_after old.events (Void key) → CanDo (Void key) old sums
       → ((d : Direction) → has d ≡ has_some (readings_at d old key)) → AreTurning Going (stored old) new key place sums
   voided is can has_is =
-      let f = found_live (finite.get old.events key) can.ready in
+      let f = found (finite.get old.events key) false can.ready in
       turns can (record {
         event = f.event;
-        one = subst (λ es. IsOneMore es (stored old) (before_key key (stored old)) (key, f.event) (behind_key key (stored old))) (sym (ap finite.entries is ∙ entries_after_is old.events (Void key)))
+        one = subst (λ es. IsOneMore es (stored old) (before_key key (stored old)) (key, f.event) (behind_key key (stored old))) (sym (entries_then old new (Void key) is))
             (voided_less (stored old) key f.event (finite.entries_sorted old.events) (listed old key (Some f.event) f.is) f.marked_is);
         there = marked_there old new key true false is f;
         sides = sides_found f has_is;
@@ -140,8 +140,7 @@ voided_spends Moment old new key is f = refl
 
 -- the live events are the same after an erasure
 pub erased : (old new : Chained) (key : KeyName) → new.events ≡ events_after old.events (Erase key) → IsFound (finite.get old.events key) true → live (stored new) ≡ live (stored old)
-erased old new key is f = ap (λ m. live (finite.entries m)) is ∙ ap live (entries_after_is old.events (Erase key))
-    ∙ erased_same (stored old) key f.event (finite.entries_sorted old.events) (listed old key (Some f.event) f.is) f.marked_is
+erased old new key is f = ap live (entries_then old new (Erase key) is) ∙ erased_same (stored old) key f.event (finite.entries_sorted old.events) (listed old key (Some f.event) f.is) f.marked_is
 
 -- The sums depend only on the live events.
 own_pairs : Order → Direction → List ℕ → List Entry → List (MeterReading × MeterReading)
@@ -212,21 +211,24 @@ summed_voided s = record {
 
 -- how many are voided, after each command
 module _ (old new : Chained) (key : KeyName) where
+  counted : (command : Command) → new.events ≡ events_after old.events command → voided_in new ≡ count_by (λ (e : Entry). e.1.voided) (entries_after (stored old) command)
+  counted command is = ap (count_by (λ (e : Entry). e.1.voided)) (entries_then old new command is)
+
   pub delivered_voided : (event : EventContent) → new.events ≡ events_after old.events (Deliver key event) → finite.get old.events key ≡ None → voided_in new ≡ voided_in old
-  delivered_voided event is absent = ap (λ m. count_by (λ (e : Entry). e.1.voided) (finite.entries m)) is ∙ ap (count_by (λ (e : Entry). e.1.voided)) (entries_after_is old.events (Deliver key event))
-      ∙ voided_delivered (stored old) key event (finite.entries_sorted old.events) (listed old key None absent)
+  delivered_voided event is absent = counted (Deliver key event) is ∙ voided_delivered (stored old) key event (finite.entries_sorted old.events) (listed old key None absent)
 
-  pub restored_voided : new.events ≡ events_after old.events (Restore key) → IsFound (finite.get old.events key) true → voided_in new + 1 ≡ voided_in old
-  restored_voided is f = ap (λ n. n + 1) (ap (λ m. count_by (λ (e : Entry). e.1.voided) (finite.entries m)) is ∙ ap (count_by (λ (e : Entry). e.1.voided)) (entries_after_is old.events (Restore key)))
-      ∙ voided_restored (stored old) key f.event (finite.entries_sorted old.events) (listed old key (Some f.event) f.is) f.marked_is
+  module _ {voided : Bool} (f : IsFound (finite.get old.events key) voided) where
+    there : find key_cmp key (stored old) ≡ Some f.event
+    there = listed old key (Some f.event) f.is
 
-  pub voided_voided_more : new.events ≡ events_after old.events (Void key) → IsFound (finite.get old.events key) false → voided_in new ≡ voided_in old + 1
-  voided_voided_more is f = ap (λ m. count_by (λ (e : Entry). e.1.voided) (finite.entries m)) is ∙ ap (count_by (λ (e : Entry). e.1.voided)) (entries_after_is old.events (Void key))
-      ∙ voided_voided (stored old) key f.event (finite.entries_sorted old.events) (listed old key (Some f.event) f.is) f.marked_is
+    pub restored_voided : voided ≡ true → new.events ≡ events_after old.events (Restore key) → voided_in new + 1 ≡ voided_in old
+    restored_voided was is = ap (λ n. n + 1) (counted (Restore key) is) ∙ voided_restored (stored old) key f.event (finite.entries_sorted old.events) there (f.marked_is ∙ was)
 
-  pub erased_voided : new.events ≡ events_after old.events (Erase key) → IsFound (finite.get old.events key) true → voided_in new + 1 ≡ voided_in old
-  erased_voided is f = ap (λ n. n + 1) (ap (λ m. count_by (λ (e : Entry). e.1.voided) (finite.entries m)) is ∙ ap (count_by (λ (e : Entry). e.1.voided)) (entries_after_is old.events (Erase key)))
-      ∙ voided_erased (stored old) key f.event (finite.entries_sorted old.events) (listed old key (Some f.event) f.is) f.marked_is
+    pub voided_voided_more : voided ≡ false → new.events ≡ events_after old.events (Void key) → voided_in new ≡ voided_in old + 1
+    voided_voided_more was is = counted (Void key) is ∙ voided_voided (stored old) key f.event (finite.entries_sorted old.events) there (f.marked_is ∙ was)
+
+    pub erased_voided : voided ≡ true → new.events ≡ events_after old.events (Erase key) → voided_in new + 1 ≡ voided_in old
+    erased_voided was is = ap (λ n. n + 1) (counted (Erase key) is) ∙ voided_erased (stored old) key f.event (finite.entries_sorted old.events) there (f.marked_is ∙ was)
 
 -- a voided event is counted
 pub some_voided : (old : Chained) (key : KeyName) → IsFound (finite.get old.events key) true → 0 < voided_in old

@@ -1,5 +1,5 @@
 -- What is missing between live numbers, by the first, the last and how many there are.
-use Rattle.std.{proofs.Common.{◌≡◌, ◌==◌, ◌&&◌, Bool, true, false, cond, ℕ, suc, ◌+◌, ◌-◌, ◌<◌, List, [], ◌∷◌, Some, None, length, slice_get, refl, sym, ap, ◌∙◌, arith}, proofs.lemmas.Bool.{eq-eqb, ne_eqb}}
+use Rattle.std.{proofs.lemmas.Bool.Decides.nat_tests, proofs.Common.{◌≡◌, ◌==◌, ◌&&◌, Bool, false, cond, ℕ, suc, ◌+◌, ◌-◌, ◌<◌, List, [], ◌∷◌, Some, None, length, slice_get, refl, sym, ap, ◌∙◌, arith}, proofs.lemmas.Bool.{eq-eqb, ne_eqb}}
 use Rattle.energy_flow.specs.Flow.{Energy}
 use Rattle.ledger_model.{specs.declared.by_direction.ByDirection.ByDirection, specs.Content.{Entry, live_of}, specs.Board.last_or_zero, specs.BoardLaws.AreRising, specs.Evse.first_or_zero, specs.Gaps.missing, proofs.GapLemmas.missing-fills}
 use Rattle.station_ledger.specs.Standing.{standing_with, kept_with}
@@ -23,8 +23,7 @@ none_last [] h = refl
 none_last (m ∷ []) h = cc
 none_last (m ∷ k ∷ ns) h =
     let at : suc (length (k ∷ ns) - 1) ≡ length (m ∷ k ∷ ns) - 1 = omega arith in
-    let rest : length (k ∷ ns) ≡ 0 = none_last (k ∷ ns) (ap (slice_get (m ∷ k ∷ ns)) at ∙ h) in
-    absurd (omega (arith, rest))
+    absurd (omega (arith, none_last (k ∷ ns) (ap (slice_get (m ∷ k ∷ ns)) at ∙ h)))
 
 -- the numbers and what is missing fill the range
 pub fills : (ns : List ℕ) (first last : ℕ) → AreRising ns → slice_get ns 0 ≡ Some first → slice_get ns (length ns - 1) ≡ Some last → first + length ns + missing ns ≡ last + 1
@@ -32,10 +31,10 @@ fills ns first last up a z = omega (arith, missing-fills ns up (first_is ns firs
 
 -- completeness, by what is missing
 pub none_missing : (b : Bool) (n : ℕ) → n ≡ 0 → b ≡ (b && (n == 0))
-none_missing b n none = elim b as (λ x. x ≡ (x && (n == 0))) [ true ↦ sym (eq-eqb n 0 none) | false ↦ refl ]
+none_missing b n none = grind (arith, nat_tests, none)
 
 pub some_missing : (b : Bool) (n : ℕ) → (n ≡ 0 → ⊥) → false ≡ (b && (n == 0))
-some_missing b n some = elim b as (λ x. false ≡ (x && (n == 0))) [ true ↦ sym (ne_eqb n 0 some) | false ↦ refl ]
+some_missing b n some = grind (arith, nat_tests, some)
 
 -- a transaction with a live event is kept
 pub kept_some : (energy : ByDirection Energy) (tx : List ℕ) (es : List Entry) → 0 < length (live_of tx es) → Some (standing_with energy tx es) ≡ kept_with energy tx es

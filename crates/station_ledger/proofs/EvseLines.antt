@@ -1,5 +1,5 @@
 -- The lines of the EVSEs from their sums, number by number.
-use Rattle.std.{proofs.Common.{◌≡◌, ◌==◌, ◌⊎◌, inl, inr, ⊎_elim, ℕ, zero, suc, ◌+◌, ◌<◌, ◌≤◌, nat_lt, Bool, true, false, cond, List, [], ◌∷◌, ◌++◌, length, map, refl, sym, ap, subst, ◌∙◌, arith}, specs.List.filter, proofs.lemmas.Bool.{eq-eqb, lt-ltb, le-ltb, ltb-true}, proofs.lemmas.Bool.Decides.Decides-eqb, proofs.lemmas.List.{append-nil, map-append}}
+use Rattle.std.{proofs.lemmas.Bool.Decides.nat_tests, proofs.Common.{◌≡◌, ◌==◌, ◌⊎◌, inl, inr, ℕ, zero, suc, ◌+◌, ◌<◌, ◌≤◌, nat_lt, Bool, true, false, cond, List, [], ◌∷◌, ◌++◌, length, map, refl, sym, ap, subst, ◌∙◌, arith}, specs.List.filter, proofs.lemmas.Bool.{lt-ltb, le-ltb}, proofs.lemmas.List.{append-nil, map-append}}
 use Rattle.ledger_model.{specs.declared.order.Order.Order, specs.declared.by_direction.ByDirection.ByDirection, specs.Board.Flowed, specs.BoardLaws.{AreRising, IsIn}, specs.Content.{Entry, live, transactions_of}, specs.Evse.{evse_of, evses, flows_at_by, transactions_at}, specs.Ranges.greatest_evse, proofs.EnergyLemmas.{evses_rise, evses_shown}}
 use Rattle.energy_flow.specs.Flow.{Energy}
 use Rattle.station_ledger.{specs.declared.totals.EvseSum.EvseSum, specs.Moved.sum_at, specs.Numbered.AreNumbered, specs.Sums.AreEvseSums, proofs.Numbered.evse_few}
@@ -19,14 +19,12 @@ line_at sums n = (n, (sum_at sums n).energy)
 
 -- no rising number is below the first
 first_is_lowest : (n : ℕ) (ns : List ℕ) → AreRising (n ∷ ns) → (k : ℕ) → IsIn k (n ∷ ns) → n ≤ k
-first_is_lowest n [] up k (inl e) = omega arith
-first_is_lowest n [] up k (inr h) = absurd h
-first_is_lowest n (m ∷ ns) up k (inl e) = omega arith
-first_is_lowest n (m ∷ ns) up k (inr h) = let above : n < m = up.0 in let low : m ≤ k = first_is_lowest m ns up.1 k h in omega arith
+first_is_lowest n [] up k h = grind (arith, h)
+first_is_lowest n (m ∷ ns) up k h = grind (arith, up.0, first_is_lowest m ns up.1 k, h)
 
 above_first : (n : ℕ) (ns : List ℕ) → AreRising (n ∷ ns) → (k : ℕ) → IsIn k ns → n < k
 above_first n [] up k h = absurd h
-above_first n (m ∷ ns) up k h = let above : n < m = up.0 in let low : m ≤ k = first_is_lowest m ns up.1 k h in omega arith
+above_first n (m ∷ ns) up k h = grind (arith, up.0, first_is_lowest m ns up.1 k h)
 
 behind_first : (n : ℕ) (ns : List ℕ) (k : ℕ) → n < k → IsIn k (n ∷ ns) → IsIn k ns
 behind_first n ns k above (inl e) = absurd (omega arith)
@@ -42,12 +40,10 @@ same_rising [] [] up other to from = refl
 same_rising [] (n ∷ ns) up other to from = absurd (from n (inl refl))
 same_rising (m ∷ ms) [] up other to from = absurd (to m (inl refl))
 same_rising (m ∷ ms) (n ∷ ns) up other to from =
-    let not_below : n ≤ m = first_is_lowest n ns other m (to m (inl refl)) in
-    let not_above : m ≤ n = first_is_lowest m ms up n (from n (inl refl)) in
-    let first : m ≡ n = omega arith in
+    let first : m ≡ n = omega (arith, first_is_lowest n ns other m (to m (inl refl)), first_is_lowest m ms up n (from n (inl refl))) in
     let rest : ms ≡ ns = same_rising ms ns (tail_rises m ms up) (tail_rises n ns other)
-    (λ k h. let above : m < k = above_first m ms up k h in behind_first n ns k (omega arith) (to k (inr h)))
-    (λ k h. let above : n < k = above_first n ns other k h in behind_first m ms k (omega arith) (from k (inr h))) in
+    (λ k h. behind_first n ns k (omega (arith, above_first m ms up k h)) (to k (inr h)))
+    (λ k h. behind_first m ms k (omega (arith, above_first n ns other k h)) (from k (inr h))) in
     λ i. first i ∷ rest i
 
 -- a number more behind rising ones that are below it
@@ -58,8 +54,7 @@ rising_then n (m ∷ k ∷ ms) up below = (up.0, rising_then n (k ∷ ms) up.1 (
 
 in_front : (k : ℕ) (ms ns : List ℕ) → IsIn k ms → IsIn k (ms ++ ns)
 in_front k [] ns h = absurd h
-in_front k (m ∷ ms) ns (inl e) = inl e
-in_front k (m ∷ ms) ns (inr h) = inr (in_front k ms ns h)
+in_front k (m ∷ ms) ns h = grind (arith, in_front k ms ns, h)
 
 in_back : (k : ℕ) (ms ns : List ℕ) → IsIn k ns → IsIn k (ms ++ ns)
 in_back k [] ns h = h
@@ -67,48 +62,32 @@ in_back k (m ∷ ms) ns h = inr (in_back k ms ns h)
 
 in_either : (k : ℕ) (ms ns : List ℕ) → IsIn k (ms ++ ns) → IsIn k ms ⊎ IsIn k ns
 in_either k [] ns h = inr h
-in_either k (m ∷ ms) ns (inl e) = inl (inl e)
-in_either k (m ∷ ms) ns (inr h) = ⊎_elim {C = IsIn k (m ∷ ms) ⊎ IsIn k ns} (λ (front : IsIn k ms). inl (inr front)) (λ (back : IsIn k ns). inr back) (in_either k ms ns h)
+in_either k (m ∷ ms) ns h = grind (arith, in_either k ms ns, h)
 
 -- numbers of a list, by how many elements have them
 some_of : {X : Type 0} (key : X → ℕ) (n : ℕ) (xs : List X) → IsIn n (map key xs) → 0 < length (filter (λ x. key x == n) xs)
 some_of key n [] h = absurd h
-some_of key n (x ∷ xs) (inl e) = rw (eq-eqb (key x) n (sym e)) (omega arith)
-some_of key n (x ∷ xs) (inr h) = elim (key x == n) as (λ b. 0 < length (cond b (x ∷ filter (λ y. key y == n) xs) (filter (λ y. key y == n) xs))) [ true ↦ omega arith | false ↦ some_of key n xs h ]
+some_of key n (x ∷ xs) h = grind (arith, nat_tests, some_of key n xs, h)
 
 of_some : {X : Type 0} (key : X → ℕ) (n : ℕ) (xs : List X) → 0 < length (filter (λ x. key x == n) xs) → IsIn n (map key xs)
 of_some key n [] h = absurd (omega (arith, h))
-of_some key n (x ∷ xs) h = elim (key x == n) as (λ b. (key x == n) ≡ b → 0 < length (cond b (x ∷ filter (λ y. key y == n) xs) (filter (λ y. key y == n) xs)) → IsIn n (map key (x ∷ xs))) [
-  | true ↦ λ e _. inl (sym ((Decides-eqb (key x) n).0 e))
-  | false ↦ λ _ rest. inr (of_some key n xs rest)
-] refl h
+of_some key n (x ∷ xs) h = grind (arith, nat_tests, of_some key n xs, h)
 
 module _ (sums : List EvseSum) where
   -- what is shown at a number is that number, of an EVSE with a transaction
   shown_there : (k n : ℕ) → IsIn k (shown_at sums n) → (k ≡ n) × (0 < (sum_at sums k).transactions)
-  shown_there k n h = elim (nat_lt 0 (sum_at sums n).transactions) as (λ b. nat_lt 0 (sum_at sums n).transactions ≡ b → IsIn k (cond b (n ∷ []) []) → (k ≡ n) × (0 < (sum_at sums k).transactions)) [
-    | true ↦ λ e is. ⊎_elim {C = (k ≡ n) × (0 < (sum_at sums k).transactions)}
-        (λ (same : k ≡ n). (same, subst (λ m. 0 < (sum_at sums m).transactions) (sym same) (ltb-true 0 (sum_at sums n).transactions e)))
-        (λ none. absurd none) is
-    | false ↦ λ _ none. absurd none
-  ] refl h
+  shown_there k n h = grind (arith, nat_tests, h)
 
   there_shown : (n : ℕ) → 0 < (sum_at sums n).transactions → IsIn n (shown_at sums n)
-  there_shown n some = subst (λ b. IsIn n (cond b (n ∷ []) [])) (sym (lt-ltb 0 (sum_at sums n).transactions some)) (inl refl)
+  there_shown n some = grind (arith, nat_tests, some)
 
   below : (n k : ℕ) → IsIn k (shown_below n sums) → (k < n) × (0 < (sum_at sums k).transactions)
   below zero k h = absurd h
-  below (suc n) k h = ⊎_elim {C = (k < suc n) × (0 < (sum_at sums k).transactions)}
-      (λ (front : IsIn k (shown_below n sums)). let is = below n k front in (let lt : k < n = is.0 in omega arith, is.1))
-      (λ (back : IsIn k (shown_at sums n)). let is = shown_there k n back in (let e : k ≡ n = is.0 in omega arith, is.1))
-      (in_either k (shown_below n sums) (shown_at sums n) h)
+  below (suc n) k h = grind (arith, below n k, shown_there k n, in_either k (shown_below n sums) (shown_at sums n) h)
 
   all_below : (n k : ℕ) → k < n → 0 < (sum_at sums k).transactions → IsIn k (shown_below n sums)
   all_below zero k lt some = absurd (omega (arith, lt))
-  all_below (suc n) k lt some = elim (k == n) as (λ b. (k == n) ≡ b → IsIn k (shown_below n sums ++ shown_at sums n)) [
-    | true ↦ λ e. let same : k ≡ n = (Decides-eqb k n).0 e in in_back k (shown_below n sums) (shown_at sums n) (subst (λ m. IsIn k (shown_at sums m)) same (there_shown k some))
-    | false ↦ λ e. let apart : k ≡ n → ⊥ = λ same. let t = eq-eqb k n same in cc in in_front k (shown_below n sums) (shown_at sums n) (all_below n k (omega (arith, lt, apart)) some)
-  ] refl
+  all_below (suc n) k lt some = grind (arith, nat_tests, all_below n k, there_shown n, in_back k (shown_below n sums) (shown_at sums n), in_front k (shown_below n sums) (shown_at sums n))
 
   rises : (n : ℕ) → AreRising (shown_below n sums)
   rises zero = tt

@@ -1,5 +1,5 @@
 -- A live event that comes or goes where the readings are by sequence, and where they are by moment.
-use Rattle.std.{proofs.Common.{◌≡◌, Bool, true, false, cond, List, [], ◌∷◌, ◌++◌, Option, Some, None, IfSome, refl, sym, ap, subst, ◌∙◌}, specs.List.filter, specs.Ordering.is_lt, specs.declared.cmp.Ordering.Ordering, specs.declared.cmp.Ordering.TheVariants.{Less, Equal, Greater}, proofs.lemmas.List.append-nil, proofs.lemmas.List.Elements.filter-append}
+use Rattle.std.{proofs.Common.{arith, ◌≡◌, Bool, true, false, List, [], ◌∷◌, ◌++◌, Option, Some, None, IfSome, refl, sym, ap, subst, ◌∙◌}, specs.List.filter, specs.Ordering.is_lt, specs.declared.cmp.Ordering.TheVariants.{Less}, proofs.lemmas.List.append-nil, proofs.lemmas.List.Elements.filter-append}
 use Rattle.ledger_model.{specs.declared.by_direction.ByDirection.ByDirection, specs.declared.order.Order.TheVariants.Moment, specs.Content.{Entry, Stored, live}, specs.Deltas.{IsOneMore, before_key, behind_key}, specs.Key.{KeyName, key_cmp}, specs.Limits.Bounds, proofs.Callers.turned}
 use Rattle.event_chain.{specs.Chains.{Chained, stored}, specs.Room.readings_under, specs.declared.around.Sides.Sides}
 use Rattle.station_ledger.{specs.declared.by_moment.ByMoment.ByMoment, specs.declared.sums.Sums.Sums, specs.declared.pairs.Way.Way, specs.declared.pairs.Way.TheVariants.{Coming, Going}, specs.ByMoment.AreByMoment, specs.Exchange.IsMove, specs.Spent.most_at, specs.Runs.by_way, specs.Sums.{AreAllowed, AreQuarterRows, AreTurning, IsTurning, order_in, order_of}, proofs.Changes.{IsChange, came_sides, gone_sides, turned_pairs}}
@@ -7,26 +7,16 @@ use Rattle.station_ledger.{specs.declared.by_moment.ByMoment.ByMoment, specs.dec
 -- what passes a test passes it again
 again : {X : Type 0} (p : X → Bool) (xs : List X) → filter p (filter p xs) ≡ filter p xs
 again p [] = refl
-again p (x ∷ xs) = elim (p x) as (λ b. p x ≡ b → filter p (cond b (x ∷ filter p xs) (filter p xs)) ≡ cond b (x ∷ filter p xs) (filter p xs)) [
-  | true ↦ λ h. ap (λ b. cond b (x ∷ filter p (filter p xs)) (filter p (filter p xs))) h ∙ ap (λ ys. x ∷ ys) (again p xs)
-  | false ↦ λ _. again p xs
-] refl
+again p (x ∷ xs) = grind (arith, again p xs)
 
 -- and not one that it rules out
 ruled_out : {X : Type 0} (p q : X → Bool) → ((x : X) → p x ≡ true → q x ≡ false) → (xs : List X) → filter q (filter p xs) ≡ []
 ruled_out p q apart [] = refl
-ruled_out p q apart (x ∷ xs) = elim (p x) as (λ b. p x ≡ b → filter q (cond b (x ∷ filter p xs) (filter p xs)) ≡ []) [
-  | true ↦ λ h. ap (λ b. cond b (x ∷ filter q (filter p xs)) (filter q (filter p xs))) (apart x h) ∙ ruled_out p q apart xs
-  | false ↦ λ _. ruled_out p q apart xs
-] refl
+ruled_out p q apart (x ∷ xs) = grind (arith, ruled_out p q apart xs, apart x)
 
 -- no key is both in front of another and behind it
 one_side : (a b : KeyName) → is_lt (key_cmp a b) ≡ true → is_lt (key_cmp b a) ≡ false
-one_side a b h = elim (key_cmp a b) as (λ (o : Ordering). key_cmp a b ≡ o → is_lt o ≡ true → is_lt (key_cmp b a) ≡ false) [
-  | Less ↦ λ e _. ap is_lt (turned a b Less e)
-  | Equal ↦ λ e no. cc
-  | Greater ↦ λ e no. cc
-] refl h
+one_side a b h = grind (arith, h, turned a b Less)
 
 -- a live event that came or went, by the keys of the others
 other_keys : (way : Way) (es new : List Entry) (key : KeyName) (s : Stored) → IsOneMore (by_way way es new) (by_way way new es) (before_key key es) (key, s) (behind_key key es)

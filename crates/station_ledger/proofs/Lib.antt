@@ -1,3 +1,4 @@
+pub mod Each
 pub mod Rows
 pub mod Walks
 pub mod Both
@@ -27,6 +28,5 @@ pub mod MomentRuns
 pub mod MomentIndexes
 pub mod MomentEvents
 pub mod MomentSides
-pub mod MomentMoves
 pub mod MomentTurning
 pub mod MomentListed

@@ -1,8 +1,8 @@
 -- An index of readings, with some put in or taken out.
-use Rattle.std.{proofs.Common.{◌≡◌, ℕ, ◌+◌, ◌<◌, ◌≤◌, Bool, true, false, cond, not, ◌||◌, nat_lt, eqb, List, [], ◌∷◌, length, refl, sym, ap, ◌∙◌, arith}, specs.List.AllByRecursion, proofs.lemmas.Bool.{eq-eqb, ne_eqb}}
+use Rattle.std.{proofs.Common.{◌≡◌, ℕ, ◌+◌, ◌<◌, ◌≤◌, true, false, not, eqb, List, [], ◌∷◌, length, refl, sym, ap, ◌∙◌, arith}, specs.List.AllByRecursion, proofs.lemmas.Bool.Decides.nat_tests}
 use Rattle.ledger_model.specs.InTime.{put_in_time}
 use Rattle.reading_index.{specs.Ranks.owner_of, specs.Timed.{Timed, has_rank, owned, without, AreAbove, AreRising}, proofs.Listed.filter-ranked}
-use Rattle.station_ledger.{specs.ByMoment.{ArePuttable, put_each, take_each}, specs.Runs.own_timed, proofs.MomentLists.{AreApart, behind_apart, each_put_each, foreign_apart, none_has, put_each-put, without_put}, proofs.MomentRanks.{at, has_owned, length-without, owned-put, owned-put_else, owned-without, owned-without_else, put-ranked}}
+use Rattle.station_ledger.{specs.ByMoment.{ArePuttable, put_each, take_each}, specs.Runs.own_timed, proofs.MomentLists.{AreApart, behind_apart, each_put_each, other_apart, none_has, put_each-put, without_put}, proofs.MomentRanks.{at, has_owned, length-without, owned-put, owned-put_else, owned-without, owned-without_else, put-ranked}}
 
 -- Readings of one owner.
 abbrev pub AreOf : ℕ → List Timed → Type 0
@@ -13,12 +13,8 @@ abbrev AreNew : List Timed → List Timed → Type 0
 AreNew xs ts = AllByRecursion (λ x. has_rank x.0 ts ≡ false) xs
 
 has_put : (n : ℕ) (x : Timed) (ts : List Timed) → (x.0 ≡ n → ⊥) → has_rank n (put_in_time at x ts) ≡ has_rank n ts
-has_put n x [] apart = ap (λ b. b || false) (ne_eqb x.0 n apart)
-has_put n x (t ∷ ts) apart =
-    (elim (nat_lt t.0 x.0) as (λ b. has_rank n (cond b (t ∷ put_in_time at x ts) (x ∷ t ∷ ts)) ≡ has_rank n (t ∷ ts)) [
-      | true ↦ ap (λ b. eqb t.0 n || b) (has_put n x ts apart)
-      | false ↦ ap (λ b. b || has_rank n (t ∷ ts)) (ne_eqb x.0 n apart)
-    ])
+has_put n x [] apart = grind (arith, nat_tests)
+has_put n x (t ∷ ts) apart = grind (arith, nat_tests, has_put n x ts apart)
 
 new-put : (x : Timed) (xs ts : List Timed) → AreAbove x.0 xs → AreNew xs ts → AreNew xs (put_in_time at x ts)
 new-put x [] ts behind new = tt
@@ -36,7 +32,7 @@ own_puttable o seq xs ts up mine own foreign = puttable xs ts up (new xs mine ow
     new : (xs : List Timed) → AreOf o xs → AllByRecursion (λ t. own_timed seq t ≡ true) xs → AreNew xs ts
     new [] mine own = tt
     new (x ∷ xs) mine own = (
-      sym (has_owned x.0 ts) ∙ ap (λ n. has_rank x.0 (owned n ts)) mine.0 ∙ none_has x.0 (owned o ts) (foreign_apart seq x (owned o ts) own.0 foreign),
+      sym (has_owned x.0 ts) ∙ ap (λ n. has_rank x.0 (owned n ts)) mine.0 ∙ none_has x.0 (owned o ts) (other_apart seq true x (owned o ts) own.0 foreign),
       new xs mine.1 own.1,
     )
 
@@ -66,16 +62,8 @@ owned-take_each_else o u [] ts apart mine = refl
 owned-take_each_else o u (x ∷ xs) ts apart mine = owned-take_each_else o u xs (without x.0 ts) apart mine.1 ∙ owned-without_else u x.0 ts (λ same. apart (sym mine.0 ∙ same))
 
 has_here : (x : Timed) (ts : List Timed) → has_rank x.0 (put_in_time at x ts) ≡ true
-has_here x [] = ap (λ b. b || false) (eq-eqb x.0 x.0 refl)
-has_here x (t ∷ ts) =
-    (elim (nat_lt t.0 x.0) as (λ b. has_rank x.0 (cond b (t ∷ put_in_time at x ts) (x ∷ t ∷ ts)) ≡ true) [
-      | true ↦ ap (λ b. eqb t.0 x.0 || b) (has_here x ts) ∙ or_true (eqb t.0 x.0)
-      | false ↦ ap (λ b. b || has_rank x.0 (t ∷ ts)) (eq-eqb x.0 x.0 refl)
-    ])
-  where
-    or_true : (b : Bool) → (b || true) ≡ true
-    or_true true = refl
-    or_true false = refl
+has_here x [] = grind (arith, nat_tests)
+has_here x (t ∷ ts) = grind (arith, nat_tests, has_here x ts)
 
 -- Readings of an owner that are there are taken out: so many fewer.
 pub fewer-take_each : (o seq : ℕ) (xs others ts : List Timed) → AreRising xs → AreOf o xs
@@ -85,9 +73,7 @@ fewer-take_each o seq [] others ts up mine own foreign is = omega arith
 fewer-take_each o seq (x ∷ xs) others ts up mine own foreign is =
     let apart : AreApart x.0 xs = behind_apart x.0 xs up.0 in
     let last : owned o ts ≡ put_in_time at x (put_each xs others) = is ∙ put_each-put xs x others apart in
-    let none : AreApart x.0 (put_each xs others) = each_put_each (λ t. t.0 ≡ x.0 → ⊥) xs others apart (foreign_apart seq x others own.0 foreign) in
+    let none : AreApart x.0 (put_each xs others) = each_put_each (λ t. t.0 ≡ x.0 → ⊥) xs others apart (other_apart seq true x others own.0 foreign) in
     let there : has_rank x.0 ts ≡ true = sym (has_owned x.0 ts) ∙ ap (λ n. has_rank x.0 (owned n ts)) mine.0 ∙ ap (has_rank x.0) last ∙ has_here x (put_each xs others) in
     let rest : owned o (without x.0 ts) ≡ put_each xs others = owned-without o x.0 ts ∙ ap (without x.0) last ∙ without_put x (put_each xs others) none in
-    let one = length-without x.0 ts there in
-    let more = fewer-take_each o seq xs others (without x.0 ts) up.1 mine.1 own.1 foreign rest in
-    omega (arith, one, more)
+    omega (arith, length-without x.0 ts there, fewer-take_each o seq xs others (without x.0 ts) up.1 mine.1 own.1 foreign rest)

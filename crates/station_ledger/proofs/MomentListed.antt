@@ -1,18 +1,14 @@
 -- The readings of an event listed by rank, one after the other.
-use Rattle.std.{proofs.Common.{◌≡◌, ℕ, zero, suc, ◌+◌, ◌^◌, ◌<◌, ◌≤◌, cond, not, List, [], ◌∷◌, ◌++◌, length, take, drop, get_or, refl, sym, ap, subst, ◌∙◌, arith}, specs.List.AllByRecursion, proofs.lemmas.Bool.{lt-ltb, le-ltb}}
+use Rattle.std.{proofs.Common.{◌≡◌, ℕ, zero, suc, ◌+◌, ◌^◌, ◌<◌, ◌≤◌, List, [], ◌∷◌, ◌++◌, length, take, drop, get_or, refl, sym, ap, subst, ◌∙◌, arith}, specs.List.AllByRecursion, proofs.lemmas.Bool.Decides.nat_tests}
 use Rattle.ledger_model.{specs.Event.MeterReading, specs.InTime.put_in_time, specs.Ranges.most_event_readings, proofs.Callers.AreFrom}
 use Rattle.reading_index.{specs.Ranks.rank, specs.Timed.{Timed, from_on, in_front, AreAbove, AreRising, AreBelow}}
-use Rattle.station_ledger.{specs.ByMoment.ranked_from, proofs.MomentLists.{each_put, from_after, none_has, AreApart, IsAfter}, proofs.MomentRanks.{at, length-put, put-ranked}}
+use Rattle.station_ledger.{specs.ByMoment.ranked_from, proofs.Each.each_put, proofs.MomentLists.{from_after, none_has, AreApart, IsAfter}, proofs.MomentRanks.{at, length-put, put-ranked}}
 
 -- Where those in front of a place are below a rank and the others are not, the place is the rank's.
 cut : (k : ℕ) (front back : List Timed) → AreBelow k front → AreFrom at k back → (front ≡ in_front k (front ++ back)) × (back ≡ from_on k (front ++ back))
 cut k [] [] under from = (refl, refl)
-cut k [] (t ∷ ts) under from =
-    let rest = cut k [] ts tt from.1 in let over = le-ltb t.0 k from.0 in
-    (rest.0 ∙ sym (ap (λ b. cond b (t ∷ in_front k ts) (in_front k ts)) over), ap (λ us. t ∷ us) rest.1 ∙ sym (ap (λ b. cond (not b) (t ∷ from_on k ts) (from_on k ts)) over))
-cut k (t ∷ ts) back under from =
-    let rest = cut k ts back under.1 from in let below = lt-ltb t.0 k under.0 in let all = ts ++ back in
-    (ap (λ us. t ∷ us) rest.0 ∙ sym (ap (λ b. cond b (t ∷ in_front k all) (in_front k all)) below), rest.1 ∙ sym (ap (λ b. cond (not b) (t ∷ from_on k all) (from_on k all)) below))
+cut k [] (t ∷ ts) under from = grind (arith, nat_tests, cut k [] ts tt from.1)
+cut k (t ∷ ts) back under from = grind (arith, nat_tests, cut k ts back under.1 from)
 
 take_drop : (n : ℕ) (ts : List Timed) → take n ts ++ drop n ts ≡ ts
 take_drop zero ts = refl
@@ -66,7 +62,7 @@ still_new : (x : Timed) (ts us : List Timed) → AllByRecursion (IsAfter x) us �
 still_new x ts [] after new = tt
 still_new x ts (u ∷ us) after new =
     let behind : IsAfter x u = after.0 in
-    (each_put (λ t. t.0 ≡ u.0 → ⊥) x ts (λ same. behind.apart (sym same)) new.0, still_new x ts us after.1 new.1)
+    (each_put (λ t. t.0 ≡ u.0 → ⊥) at x ts (λ same. behind.apart (sym same)) new.0, still_new x ts us after.1 new.1)
 
 pub listing-more : (o number place : ℕ) (r : MeterReading) (left : List MeterReading) (listed : List Timed) (capacity more : ℕ)
     → number < 2 ^ 31 → capacity ≤ more → IsListing o number place (r ∷ left) listed capacity

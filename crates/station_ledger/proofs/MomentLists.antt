@@ -1,30 +1,14 @@
 -- The readings of an event and of a transaction by rank.
-use Rattle.std.{proofs.Common.{◌≡◌, ℕ, ◌+◌, ◌*◌, ◌^◌, ◌<◌, ◌≤◌, Bool, true, false, cond, not, List, [], ◌∷◌, ◌++◌, length, map, refl, sym, ap, subst, ◌∙◌, ⊎_elim, eqb, nat_lt, bytes_eq, arith}, specs.List.{AllByRecursion, All, filter, flat_map, sum_by}, proofs.lemmas.Bool.{cases_lt, cases_eq, eq-eqb, ne_eqb, lt-ltb, le-ltb, or_from, true≢false}, proofs.lemmas.Grind.flat_map-append, proofs.lemmas.List.map-append, proofs.lemmas.List.Elements.recursion_from_All, proofs.lemmas.List.Sums.{sum_by-append, sum_by-cons}}
+use Rattle.std.{proofs.Common.{◌≡◌, ℕ, ◌+◌, ◌*◌, ◌^◌, ◌<◌, ◌≤◌, Bool, true, false, cond, not, List, [], ◌∷◌, ◌++◌, length, map, refl, sym, ap, subst, ◌∙◌, eqb, nat_lt, bytes_eq, arith}, specs.List.{AllByRecursion, All, filter, flat_map, sum_by}, proofs.lemmas.Bool.Decides.nat_tests, proofs.lemmas.Bool.{eq-eqb, ne_eqb}, proofs.lemmas.Grind.flat_map-append, proofs.lemmas.List.{append-nil, map-append}, proofs.lemmas.List.Elements.recursion_from_All, proofs.lemmas.List.Sums.{sum_by-append, sum_by-cons}}
 use Rattle.ledger_model.specs.BoardLaws as laws
-use Rattle.ledger_model.{specs.declared.order.Order.TheVariants.Moment, specs.declared.reading.Direction.Direction, specs.Content.{Entry, live, live_of}, specs.Deltas.{before_key, behind_key, own_events, IsOneMore}, specs.Energy.readings_by, specs.Event.{IsMeterReading, MeterReading, same_direction, toward}, specs.Gaps.numbers_of, specs.InTime.{in_time, put_in_time}, specs.ReadingOrder.{Numbered, numbered, numbered_by}, proofs.Callers.{AreEntries, AreForeign, AreOwn, IsEntry, few_toward, in_time-map, live_else, live_with, live_without, numbered_readings, own_before_key, own_behind_key, put-behind, put-front}}
+use Rattle.ledger_model.{specs.declared.order.Order.TheVariants.Moment, specs.declared.reading.Direction.Direction, specs.Content.{Entry, live, live_of}, specs.Deltas.{before_key, behind_key, own_events, IsOneMore}, specs.Energy.readings_by, specs.Event.{IsMeterReading, MeterReading, toward}, specs.Gaps.numbers_of, specs.InTime.{in_time, put_in_time}, specs.ReadingOrder.{Numbered, numbered, numbered_by}, proofs.Bounds.AreEntries-filter, proofs.Callers.{AreEntries, AreForeign, AreOwn, IsEntry, few_toward, in_time-map, live_else, live_with, live_without, numbered_readings, own_before_key, own_behind_key}}
 use Rattle.reading_index.{specs.Ranks.{number_of, owner, owner_of, rank}, specs.Timed.{Timed, has_rank, placed_at, without, AreAbove, AreRising}, specs.declared.placed.PlacedReading.PlacedReading}
-use Rattle.station_ledger.{specs.ByMoment.{bare, live_readings, put_each, ranked, ranked_from, take_each, timed_of}, specs.Runs.own_timed, specs.Listing.{placed, placed_by, placed_from}, proofs.MomentRanks.{at, number_of-rank, owner_of-rank, length-put, place_of-rank, put-ranked}}
+use Rattle.station_ledger.{proofs.Each.{each_append, each_in_time, each_put, each_then, each_toward}, specs.ByMoment.{bare, live_readings, put_each, ranked, ranked_from, take_each, timed_of}, specs.Runs.own_timed, specs.Listing.{placed, placed_by, placed_from}, proofs.MomentRanks.{at, number_of-rank, owner_of-rank, length-put_each, place_of-rank, put-ranked}}
 
 -- What is so of each reading is so of each by rank.
-module _ (P : Timed → Type 0) where
-  pub each_put : (x : Timed) (ts : List Timed) → P x → AllByRecursion P ts → AllByRecursion P (put_in_time at x ts)
-  each_put x [] here all = (here, tt)
-  each_put x (t ∷ ts) here all = ⊎_elim
-      (λ (on : t.0 < x.0). subst (AllByRecursion P) (sym (put-behind at x t ts on)) (all.0, each_put x ts here all.1))
-      (λ (end : x.0 ≤ t.0). subst (AllByRecursion P) (sym (put-front at x t ts end)) (here, all))
-      (cases_lt t.0 x.0)
-
-  pub each_put_each : (xs ts : List Timed) → AllByRecursion P xs → AllByRecursion P ts → AllByRecursion P (put_each xs ts)
-  each_put_each [] ts mine all = all
-  each_put_each (x ∷ xs) ts mine all = each_put_each xs (put_in_time at x ts) mine.1 (each_put x ts mine.0 all)
-
-  each_in_time : (ts : List Timed) → AllByRecursion P ts → AllByRecursion P (in_time at ts)
-  each_in_time [] all = tt
-  each_in_time (t ∷ ts) all = each_put t (in_time at ts) all.0 (each_in_time ts all.1)
-
-  each_append : (xs ys : List Timed) → AllByRecursion P xs → AllByRecursion P ys → AllByRecursion P (xs ++ ys)
-  each_append [] ys all more = more
-  each_append (x ∷ xs) ys all more = (all.0, each_append xs ys all.1 more)
+pub each_put_each : (P : Timed → Type 0) (xs ts : List Timed) → AllByRecursion P xs → AllByRecursion P ts → AllByRecursion P (put_each xs ts)
+each_put_each P [] ts mine all = all
+each_put_each P (x ∷ xs) ts mine all = each_put_each P xs (put_in_time at x ts) mine.1 (each_put P at x ts mine.0 all)
 
 -- None has this rank.
 abbrev pub AreApart : ℕ → List Timed → Type 0
@@ -37,7 +21,7 @@ AreDistinct (t ∷ ts) = AreApart t.0 ts × AreDistinct ts
 
 pub none_has : (n : ℕ) (ts : List Timed) → AreApart n ts → has_rank n ts ≡ false
 none_has n [] apart = refl
-none_has n (t ∷ ts) apart = or_from (eqb t.0 n) (has_rank n ts) (ne_eqb t.0 n apart.0) (none_has n ts apart.1)
+none_has n (t ∷ ts) apart = grind (arith, nat_tests, none_has n ts apart.1, apart.0)
 
 pub behind_apart : (n : ℕ) (ts : List Timed) → AreAbove n ts → AreApart n ts
 behind_apart n [] behind = tt
@@ -50,35 +34,12 @@ ranked_distinct (t ∷ ts) up = (behind_apart t.0 ts up.0, ranked_distinct ts up
 -- Of different ranks, by rank, they are by rank.
 distinct_ranked : (ts : List Timed) → AreDistinct ts → AreRising (in_time at ts)
 distinct_ranked [] apart = tt
-distinct_ranked (t ∷ ts) apart = put-ranked t (in_time at ts) (distinct_ranked ts apart.1) (none_has t.0 (in_time at ts) (each_in_time (λ u. u.0 ≡ t.0 → ⊥) ts apart.0))
+distinct_ranked (t ∷ ts) apart = put-ranked t (in_time at ts) (distinct_ranked ts apart.1) (none_has t.0 (in_time at ts) (each_in_time (λ u. u.0 ≡ t.0 → ⊥) at ts apart.0))
 
 -- Two readings of different ranks are put in in either order.
-put_lower : (x y : Timed) (ts : List Timed) → x.0 < y.0 → put_in_time at x (put_in_time at y ts) ≡ put_in_time at y (put_in_time at x ts)
-put_lower x y [] lt = put-front at x y [] (omega (arith, lt)) ∙ sym (put-behind at y x [] lt)
-put_lower x y (t ∷ ts) lt = ⊎_elim
-    (λ (on : t.0 < x.0).
-    ap (put_in_time at x) (put-behind at y t ts (omega (arith, on, lt)))
-    ∙ put-behind at x t (put_in_time at y ts) on
-    ∙ ap (λ us. t ∷ us) (put_lower x y ts lt)
-    ∙ sym (ap (put_in_time at y) (put-behind at x t ts on) ∙ put-behind at y t (put_in_time at x ts) (omega (arith, on, lt))))
-    (λ (end : x.0 ≤ t.0).
-    first end ∙ sym (ap (put_in_time at y) (put-front at x t ts end) ∙ put-behind at y x (t ∷ ts) lt))
-    (cases_lt t.0 x.0)
-  where
-    first : x.0 ≤ t.0 → put_in_time at x (put_in_time at y (t ∷ ts)) ≡ x ∷ put_in_time at y (t ∷ ts)
-    first end = ⊎_elim
-        (λ (on : t.0 < y.0). ap (put_in_time at x) (put-behind at y t ts on) ∙ put-front at x t (put_in_time at y ts) end ∙ ap (λ us. x ∷ us) (sym (put-behind at y t ts on)))
-        (λ (over : y.0 ≤ t.0). ap (put_in_time at x) (put-front at y t ts over) ∙ put-front at x y (t ∷ ts) (omega (arith, lt)) ∙ ap (λ us. x ∷ us) (sym (put-front at y t ts over)))
-        (cases_lt t.0 y.0)
-
 put_put : (x y : Timed) (ts : List Timed) → (y.0 ≡ x.0 → ⊥) → put_in_time at x (put_in_time at y ts) ≡ put_in_time at y (put_in_time at x ts)
-put_put x y ts apart = ⊎_elim
-    (λ (lt : x.0 < y.0). put_lower x y ts lt)
-    (λ (le : y.0 ≤ x.0). sym (put_lower y x ts (strictly le apart)))
-    (cases_lt x.0 y.0)
-  where
-    strictly : {m n : ℕ} → m ≤ n → (m ≡ n → ⊥) → m < n
-    strictly {m} {n} le apart = ⊎_elim (λ (same : m ≡ n). absurd (apart same)) (λ (other : m ≡ n → ⊥). omega (arith, le, other)) (cases_eq m n)
+put_put x y [] apart = grind (arith, nat_tests)
+put_put x y (t ∷ ts) apart = grind (arith, nat_tests, put_put x y ts apart)
 
 pub put_each-put : (xs : List Timed) (x : Timed) (ts : List Timed) → AreApart x.0 xs → put_each xs (put_in_time at x ts) ≡ put_in_time at x (put_each xs ts)
 put_each-put [] x ts apart = refl
@@ -96,40 +57,24 @@ put_each-middle (x ∷ xs) rs zs apart others = put_each-put rs x (in_time at (x
 
 put_each-front : (x : Timed) (xs ts : List Timed) → AreApart x.0 xs → put_each (put_in_time at x xs) ts ≡ put_each xs (put_in_time at x ts)
 put_each-front x [] ts apart = refl
-put_each-front x (y ∷ ys) ts apart = ⊎_elim
-    (λ (on : y.0 < x.0). ap (λ us. put_each us ts) (put-behind at x y ys on) ∙ put_each-front x ys (put_in_time at y ts) apart.1 ∙ ap (put_each ys) (put_put x y ts apart.0))
-    (λ (end : x.0 ≤ y.0). ap (λ us. put_each us ts) (put-front at x y ys end))
-    (cases_lt y.0 x.0)
+put_each-front x (y ∷ ys) ts apart = grind (arith, nat_tests, put_each-front x ys (put_in_time at y ts) apart.1, put_put x y ts apart.0)
 
 -- They may be put in by rank.
 put_each-sorted : (xs ts : List Timed) → AreDistinct xs → put_each (in_time at xs) ts ≡ put_each xs ts
 put_each-sorted [] ts apart = refl
-put_each-sorted (x ∷ xs) ts apart = put_each-front x (in_time at xs) ts (each_in_time (λ u. u.0 ≡ x.0 → ⊥) xs apart.0) ∙ put_each-sorted xs (put_in_time at x ts) apart.1
-
-append-none : {X : Type 0} (xs : List X) → xs ++ [] ≡ xs
-append-none [] = refl
-append-none (x ∷ xs) = ap (λ ys. x ∷ ys) (append-none xs)
+put_each-sorted (x ∷ xs) ts apart = put_each-front x (in_time at xs) ts (each_in_time (λ u. u.0 ≡ x.0 → ⊥) at xs apart.0) ∙ put_each-sorted xs (put_in_time at x ts) apart.1
 
 listed_sorted : (xs : List Timed) → AreDistinct xs → put_each xs [] ≡ in_time at xs
-listed_sorted xs apart = put_each-in_time xs [] apart ∙ ap (in_time at) (append-none xs)
+listed_sorted xs apart = put_each-in_time xs [] apart ∙ ap (in_time at) (append-nil xs)
 
 -- What was put in is taken out again.
 without_none : (n : ℕ) (ts : List Timed) → AreApart n ts → without n ts ≡ ts
 without_none n [] apart = refl
-without_none n (t ∷ ts) apart = ap (λ b. cond (not b) (t ∷ without n ts) (without n ts)) (ne_eqb t.0 n apart.0) ∙ ap (λ us. t ∷ us) (without_none n ts apart.1)
+without_none n (t ∷ ts) apart = grind (arith, nat_tests, without_none n ts apart.1, apart.0)
 
 pub without_put : (x : Timed) (ts : List Timed) → AreApart x.0 ts → without x.0 (put_in_time at x ts) ≡ ts
-without_put x [] apart = ap (λ b. cond (not b) (x ∷ []) []) (eq-eqb x.0 x.0 refl)
-without_put x (t ∷ ts) apart = ⊎_elim
-    (λ (on : t.0 < x.0).
-    ap (without x.0) (put-behind at x t ts on)
-    ∙ ap (λ b. cond (not b) (t ∷ without x.0 (put_in_time at x ts)) (without x.0 (put_in_time at x ts))) (ne_eqb t.0 x.0 apart.0)
-    ∙ ap (λ us. t ∷ us) (without_put x ts apart.1))
-    (λ (end : x.0 ≤ t.0).
-    ap (without x.0) (put-front at x t ts end)
-    ∙ ap (λ b. cond (not b) (x ∷ without x.0 (t ∷ ts)) (without x.0 (t ∷ ts))) (eq-eqb x.0 x.0 refl)
-    ∙ without_none x.0 (t ∷ ts) apart)
-    (cases_lt t.0 x.0)
+without_put x [] apart = grind (arith, nat_tests)
+without_put x (t ∷ ts) apart = grind (arith, nat_tests, without_put x ts apart.1, without_none x.0 ts apart.1, apart.0)
 
 taken_back : (xs ts : List Timed) → AreDistinct xs → AllByRecursion (λ x. AreApart x.0 ts) xs → take_each xs (put_each xs ts) ≡ ts
 taken_back [] ts apart others = refl
@@ -148,13 +93,9 @@ abbrev AreListed : List Timed → Type 0
 AreListed [] = Unit {0}
 AreListed (t ∷ ts) = AllByRecursion (IsAfter t) ts × AreListed ts
 
-after_apart : (t : Timed) (us : List Timed) → AllByRecursion (IsAfter t) us → AreApart t.0 us
-after_apart t [] all = tt
-after_apart t (u ∷ us) all = (let a : IsAfter t u = all.0 in a.apart, after_apart t us all.1)
-
 listed_distinct : (ts : List Timed) → AreListed ts → AreDistinct ts
 listed_distinct [] all = tt
-listed_distinct (t ∷ ts) all = (after_apart t ts all.0, listed_distinct ts all.1)
+listed_distinct (t ∷ ts) all = (each_then (IsAfter t) (λ u. u.0 ≡ t.0 → ⊥) (λ u a. a.apart) ts all.0, listed_distinct ts all.1)
 
 put_agrees : (t : Timed) (us : List Timed) → AllByRecursion (IsAfter t) us → put_in_time at t us ≡ put_in_time (λ u. u.1.moment) t us
 put_agrees t [] all = refl
@@ -163,18 +104,11 @@ put_agrees t (u ∷ us) all = let a : IsAfter t u = all.0 in (λ i. cond (a.agre
 -- By rank they are as by moment.
 by_rank : (ts : List Timed) → AreListed ts → in_time at ts ≡ in_time (λ u. u.1.moment) ts
 by_rank [] all = refl
-by_rank (t ∷ ts) all = put_agrees t (in_time at ts) (each_in_time (IsAfter t) ts all.0) ∙ ap (put_in_time (λ u. u.1.moment) t) (by_rank ts all.1)
+by_rank (t ∷ ts) all = put_agrees t (in_time at ts) (each_in_time (IsAfter t) at ts all.0) ∙ ap (put_in_time (λ u. u.1.moment) t) (by_rank ts all.1)
 
 -- Of one owner, a later place is behind.
 after : (o n p k q : ℕ) (r s : MeterReading) → n < 2 ^ 31 → p < 2 ^ 10 → k < 2 ^ 31 → q < 2 ^ 10 → n * 2 ^ 10 + p < k * 2 ^ 10 + q → IsAfter (rank o r.moment n p, r) (rank o s.moment k q, s)
-after o n p k q r s number place number_2 place_2 lt = ⊎_elim
-    (λ (early : s.moment < r.moment).
-    let under : rank o s.moment k q < rank o r.moment n p = omega (arith, early, number_2, place_2) in
-    record { apart = λ same. absurd (omega (arith, under, same)); agrees = lt-ltb (rank o s.moment k q) (rank o r.moment n p) under ∙ sym (lt-ltb s.moment r.moment early) })
-    (λ (late : r.moment ≤ s.moment).
-    let over : rank o r.moment n p < rank o s.moment k q = omega (arith, late, lt) in
-    record { apart = λ same. absurd (omega (arith, over, same)); agrees = le-ltb (rank o s.moment k q) (rank o r.moment n p) (omega (arith, over)) ∙ sym (le-ltb s.moment r.moment late) })
-    (cases_lt s.moment r.moment)
+after o n p k q r s number place number_2 place_2 lt = record { apart = λ same. absurd (omega (arith, same)); agrees = grind (arith, nat_tests) }
 
 pub from_after : (o n p k q : ℕ) (r : MeterReading) (ss : List MeterReading) → n < 2 ^ 31 → p < 2 ^ 10 → k < 2 ^ 31 → q + length ss ≤ 2 ^ 10 → n * 2 ^ 10 + p < k * 2 ^ 10 + q
     → AllByRecursion (IsAfter (rank o r.moment n p, r)) (ranked_from o k q ss)
@@ -202,25 +136,11 @@ each_from P o n p (r ∷ rs) here room = (here p r (omega (arith, room)), each_f
 owned_from : (o n p : ℕ) (rs : List MeterReading) → n < 2 ^ 31 → p + length rs ≤ 2 ^ 10 → AllByRecursion IsMeterReading rs → AllByRecursion (λ t. owner_of t.0 ≡ o) (ranked_from o n p rs)
 owned_from o n p [] number room all = tt
 owned_from o n p (r ∷ rs) number room all =
-    let early = (let it : IsMeterReading r = all.0 in it.moment.1) in
-    (owner_of-rank o r.moment n p (omega (arith, early)) number (omega (arith, room)), owned_from o n (p + 1) rs number (omega (arith, room)) all.1)
+    (owner_of-rank o r.moment n p (omega (arith, all.0.moment.1)) number (omega (arith, room)), owned_from o n (p + 1) rs number (omega (arith, room)) all.1)
 
 length_from : (o n p : ℕ) (rs : List MeterReading) → length (ranked_from o n p rs) ≡ length rs
 length_from o n p [] = refl
 length_from o n p (r ∷ rs) = let rest = length_from o n (p + 1) rs in omega (arith, rest)
-
-length_put_each : (xs ts : List Timed) → length (put_each xs ts) ≡ length xs + length ts
-length_put_each [] ts = omega arith
-length_put_each (x ∷ xs) ts = let rest = length_put_each xs (put_in_time at x ts) in let one = length-put x ts in omega (arith, rest, one)
-
-toward_each : (P : MeterReading → Type 0) (d : Direction) (rs : List MeterReading) → AllByRecursion P rs → AllByRecursion P (toward d rs)
-toward_each P d [] all = tt
-toward_each P d (r ∷ rs) all =
-    elim (same_direction d r.direction) as (λ b. AllByRecursion P (cond b (r ∷ toward d rs) (toward d rs))) [
-      | true ↦
-          (all.0, toward_each P d rs all.1)
-      | false ↦ toward_each P d rs all.1
-    ]
 
 are_own : (own : Timed → Bool) (ts : List Timed) → AllByRecursion (λ t. own t ≡ true) ts → AreOwn own ts
 are_own own [] all = tt
@@ -240,7 +160,7 @@ module _ (slot : ℕ) (d : Direction) (e : Entry) where
     room = omega (arith, few, few_toward d e.1.event.readings)
 
     its_distinct : AreDistinct (ranked slot d e)
-    its_distinct = subst AreDistinct (append-none (ranked slot d e)) (listed_distinct _ (front_listed (owner slot d) e.0.seq 0 (toward d e.1.event.readings) [] number room (λ q r lt. tt) tt))
+    its_distinct = subst AreDistinct (append-nil (ranked slot d e)) (listed_distinct _ (front_listed (owner slot d) e.0.seq 0 (toward d e.1.event.readings) [] number room (λ q r lt. tt) tt))
 
     its_own : AllByRecursion (λ t. own_timed e.0.seq t ≡ true) (ranked slot d e)
     its_own = each_from (λ t. own_timed e.0.seq t ≡ true) (owner slot d) e.0.seq 0 (toward d e.1.event.readings)
@@ -259,43 +179,30 @@ module _ (slot : ℕ) (d : Direction) (e : Entry) where
     pub listed-owned : All IsMeterReading e.1.event.readings → AllByRecursion (λ t. owner_of t.0 ≡ owner slot d) listed
     listed-owned all =
         each_put_each (λ t. owner_of t.0 ≡ owner slot d) (ranked slot d e) []
-        (owned_from (owner slot d) e.0.seq 0 (toward d e.1.event.readings) number room (toward_each IsMeterReading d e.1.event.readings (recursion_from_All IsMeterReading e.1.event.readings all))) tt
+        (owned_from (owner slot d) e.0.seq 0 (toward d e.1.event.readings) number room (each_toward IsMeterReading d e.1.event.readings (recursion_from_All IsMeterReading e.1.event.readings all))) tt
 
   pub length-listed : length listed ≡ length (toward d e.1.event.readings)
-  length-listed = let all = length_put_each (ranked slot d e) [] in let flat = length_from (owner slot d) e.0.seq 0 (toward d e.1.event.readings) in omega (arith, all, flat)
+  length-listed = omega (arith, length-put_each (ranked slot d e) [], length_from (owner slot d) e.0.seq 0 (toward d e.1.event.readings))
 
 -- An event's readings have other ranks than those of other events.
-pub foreign_apart : (seq : ℕ) (x : Timed) (ts : List Timed) → own_timed seq x ≡ true → AllByRecursion (λ t. own_timed seq t ≡ false) ts → AreApart x.0 ts
-foreign_apart seq x [] own all = tt
-foreign_apart seq x (t ∷ ts) own all = (λ same. true≢false (sym own ∙ ap (λ n. eqb (number_of n) seq) (sym same) ∙ all.0), foreign_apart seq x ts own all.1)
+pub other_apart : (seq : ℕ) (own : Bool) (x : Timed) (ts : List Timed) → own_timed seq x ≡ own → AllByRecursion (λ t. own_timed seq t ≡ not own) ts → AreApart x.0 ts
+other_apart seq own x ts is = each_then (λ t. own_timed seq t ≡ not own) (λ t. t.0 ≡ x.0 → ⊥) (λ t other same. never own (sym is ∙ ap (λ n. eqb (number_of n) seq) (sym same) ∙ other)) ts
+  where
+    never : (b : Bool) → b ≡ not b → ⊥
+    never true h = cc
+    never false h = cc
 
-own_apart : (seq : ℕ) (x : Timed) (ts : List Timed) → own_timed seq x ≡ false → AllByRecursion (λ t. own_timed seq t ≡ true) ts → AreApart x.0 ts
-own_apart seq x [] foreign all = tt
-own_apart seq x (t ∷ ts) foreign all = (λ same. true≢false (sym all.0 ∙ ap (λ n. eqb (number_of n) seq) same ∙ foreign), own_apart seq x ts foreign all.1)
-
-all_foreign_apart : (seq : ℕ) (xs ts : List Timed) → AllByRecursion (λ t. own_timed seq t ≡ true) xs → AllByRecursion (λ t. own_timed seq t ≡ false) ts → AllByRecursion (λ x. AreApart x.0 ts) xs
-all_foreign_apart seq [] ts own all = tt
-all_foreign_apart seq (x ∷ xs) ts own all = (foreign_apart seq x ts own.0 all, all_foreign_apart seq xs ts own.1 all)
-
-all_own_apart : (seq : ℕ) (xs ts : List Timed) → AllByRecursion (λ t. own_timed seq t ≡ false) xs → AllByRecursion (λ t. own_timed seq t ≡ true) ts → AllByRecursion (λ x. AreApart x.0 ts) xs
-all_own_apart seq [] ts foreign all = tt
-all_own_apart seq (x ∷ xs) ts foreign all = (own_apart seq x ts foreign.0 all, all_own_apart seq xs ts foreign.1 all)
+all_apart : (seq : ℕ) (own : Bool) (xs ts : List Timed) → AllByRecursion (λ t. own_timed seq t ≡ own) xs → AllByRecursion (λ t. own_timed seq t ≡ not own) ts
+    → AllByRecursion (λ x. AreApart x.0 ts) xs
+all_apart seq own xs ts mine others = each_then (λ t. own_timed seq t ≡ own) (λ x. AreApart x.0 ts) (λ x is. other_apart seq own x ts is others) xs mine
 
 -- Entries in range.
-entries_passed : (p : Entry → Bool) (es : List Entry) → AreEntries es → AreEntries (filter p es)
-entries_passed p [] all = tt
-entries_passed p (e ∷ es) all = elim (p e) as (λ b. AreEntries (cond b (e ∷ filter p es) (filter p es))) [ true ↦ (all.0, entries_passed p es all.1) | false ↦ entries_passed p es all.1 ]
-
-entries_front : (es fs : List Entry) → AreEntries (es ++ fs) → AreEntries es
-entries_front [] fs all = tt
-entries_front (e ∷ es) fs all = (all.0, entries_front es fs all.1)
-
-entries_back : (es fs : List Entry) → AreEntries (es ++ fs) → AreEntries fs
-entries_back [] fs all = all
-entries_back (e ∷ es) fs all = entries_back es fs all.1
+entries_parts : (es fs : List Entry) → AreEntries (es ++ fs) → AreEntries es × AreEntries fs
+entries_parts [] fs all = (tt, all)
+entries_parts (e ∷ es) fs all = let rest = entries_parts es fs all.1 in ((all.0, rest.0), rest.1)
 
 few_ranked : (d : Direction) (e : Entry) → IsEntry e → 0 + length (toward d e.1.event.readings) ≤ 2 ^ 10
-few_ranked d e it = let few = it.event.event.0 in omega (arith, few, few_toward d e.1.event.readings)
+few_ranked d e it = omega (arith, it.event.event.0, few_toward d e.1.event.readings)
 
 -- Events of other numbers have readings of other numbers.
 all_foreign : (slot : ℕ) (d : Direction) (seq : ℕ) (es : List Entry) → AreEntries es → AllByRecursion (λ e. e.0.seq ≡ seq → ⊥) es
@@ -311,25 +218,11 @@ all_foreign slot d seq (e ∷ es) range others =
 
 below_other : (seq : ℕ) (es : List Entry) → AllByRecursion (λ (e : Entry). e.0.seq ≡ seq → ⊥) (filter (λ e. nat_lt e.0.seq seq) es)
 below_other seq [] = tt
-below_other seq (e ∷ es) = ⊎_elim
-    (λ (lt : e.0.seq < seq). subst
-    (λ b. AllByRecursion (λ (f : Entry). f.0.seq ≡ seq → ⊥) (cond b (e ∷ filter (λ f. nat_lt f.0.seq seq) es) (filter (λ f. nat_lt f.0.seq seq) es)))
-    (sym (lt-ltb e.0.seq seq lt)) ((λ same. absurd (omega (arith, lt, same))), below_other seq es))
-    (λ (ge : seq ≤ e.0.seq). subst
-    (λ b. AllByRecursion (λ (f : Entry). f.0.seq ≡ seq → ⊥) (cond b (e ∷ filter (λ f. nat_lt f.0.seq seq) es) (filter (λ f. nat_lt f.0.seq seq) es)))
-    (sym (le-ltb e.0.seq seq ge)) (below_other seq es))
-    (cases_lt e.0.seq seq)
+below_other seq (e ∷ es) = grind (arith, nat_tests, below_other seq es)
 
 above_other : (seq : ℕ) (es : List Entry) → AllByRecursion (λ (e : Entry). e.0.seq ≡ seq → ⊥) (filter (λ e. nat_lt seq e.0.seq) es)
 above_other seq [] = tt
-above_other seq (e ∷ es) = ⊎_elim
-    (λ (lt : seq < e.0.seq). subst
-    (λ b. AllByRecursion (λ (f : Entry). f.0.seq ≡ seq → ⊥) (cond b (e ∷ filter (λ f. nat_lt seq f.0.seq) es) (filter (λ f. nat_lt seq f.0.seq) es)))
-    (sym (lt-ltb seq e.0.seq lt)) ((λ same. absurd (omega (arith, lt, same))), above_other seq es))
-    (λ (ge : e.0.seq ≤ seq). subst
-    (λ b. AllByRecursion (λ (f : Entry). f.0.seq ≡ seq → ⊥) (cond b (e ∷ filter (λ f. nat_lt seq f.0.seq) es) (filter (λ f. nat_lt seq f.0.seq) es)))
-    (sym (le-ltb seq e.0.seq ge)) (above_other seq es))
-    (cases_lt seq e.0.seq)
+above_other seq (e ∷ es) = grind (arith, nat_tests, above_other seq es)
 
 -- A transaction's readings by rank, with one event more.
 module _ (slot : ℕ) (d : Direction) (es new : List Entry) (e : Entry) (one : IsOneMore es new (before_key e.0 es) e (behind_key e.0 es)) (range : AreEntries new) where
@@ -339,18 +232,18 @@ module _ (slot : ℕ) (d : Direction) (es new : List Entry) (e : Entry) (one : I
   abbrev there : List Entry
   there = own_events e.0.tx (behind_key e.0 es)
 
-  all_in_range : AreEntries (before_key e.0 es ++ e ∷ behind_key e.0 es)
-  all_in_range = subst AreEntries one.more_live (entries_passed (λ f. not f.1.voided) new range)
+  all_in_range : AreEntries (before_key e.0 es) × AreEntries (e ∷ behind_key e.0 es)
+  all_in_range = entries_parts (before_key e.0 es) (e ∷ behind_key e.0 es) (subst AreEntries one.more_live (AreEntries-filter (λ f. not f.1.voided) new range))
 
   pub it_in_range : IsEntry e
-  it_in_range = (entries_back (before_key e.0 es) (e ∷ behind_key e.0 es) all_in_range).0
+  it_in_range = all_in_range.1.0
 
   before_foreign : AllByRecursion (λ t. own_timed e.0.seq t ≡ false) (flat_map (ranked slot d) here)
-  before_foreign = all_foreign slot d e.0.seq here (entries_passed (λ f. bytes_eq e.0.tx f.0.tx) (before_key e.0 es) (entries_front (before_key e.0 es) (e ∷ behind_key e.0 es) all_in_range))
+  before_foreign = all_foreign slot d e.0.seq here (AreEntries-filter (λ f. bytes_eq e.0.tx f.0.tx) (before_key e.0 es) all_in_range.0)
       (subst (AllByRecursion (λ (f : Entry). f.0.seq ≡ e.0.seq → ⊥)) (sym (own_before_key e.0 es)) (below_other e.0.seq (live_of e.0.tx es)))
 
   behind_foreign : AllByRecursion (λ t. own_timed e.0.seq t ≡ false) (flat_map (ranked slot d) there)
-  behind_foreign = all_foreign slot d e.0.seq there (entries_passed (λ f. bytes_eq e.0.tx f.0.tx) (behind_key e.0 es) (entries_back (before_key e.0 es) (e ∷ behind_key e.0 es) all_in_range).1)
+  behind_foreign = all_foreign slot d e.0.seq there (AreEntries-filter (λ f. bytes_eq e.0.tx f.0.tx) (behind_key e.0 es) all_in_range.1.1)
       (subst (AllByRecursion (λ (f : Entry). f.0.seq ≡ e.0.seq → ⊥)) (sym (own_behind_key e.0 es)) (above_other e.0.seq (live_of e.0.tx es)))
 
   with_it : flat_map (ranked slot d) (live_of e.0.tx new) ≡ flat_map (ranked slot d) here ++ (ranked slot d e ++ flat_map (ranked slot d) there)
@@ -366,7 +259,7 @@ module _ (slot : ℕ) (d : Direction) (es new : List Entry) (e : Entry) (one : I
   own = its_own slot d e it_in_range.key.number it_in_range.event.event.0
 
   pub stand_foreign : AllByRecursion (λ t. own_timed e.0.seq t ≡ false) (timed_of slot d e.0.tx es)
-  stand_foreign = each_in_time (λ t. own_timed e.0.seq t ≡ false) (flat_map (ranked slot d) (live_of e.0.tx es))
+  stand_foreign = each_in_time (λ t. own_timed e.0.seq t ≡ false) at (flat_map (ranked slot d) (live_of e.0.tx es))
       (subst (AllByRecursion (λ t. own_timed e.0.seq t ≡ false)) (sym without_it)
       (each_append (λ t. own_timed e.0.seq t ≡ false) (flat_map (ranked slot d) here) (flat_map (ranked slot d) there) before_foreign behind_foreign))
 
@@ -377,7 +270,7 @@ module _ (slot : ℕ) (d : Direction) (es new : List Entry) (e : Entry) (one : I
       ∙ put_each-sorted (ranked slot d e) (timed_of slot d e.0.tx es) distinct
       ∙ ap (λ us. put_each (ranked slot d e) (in_time at us)) without_it
       ∙ put_each-middle (flat_map (ranked slot d) here) (ranked slot d e) (flat_map (ranked slot d) there) distinct
-      (all_own_apart e.0.seq (flat_map (ranked slot d) here) (ranked slot d e) before_foreign own)
+      (all_apart e.0.seq false (flat_map (ranked slot d) here) (ranked slot d e) before_foreign own)
       ∙ ap (in_time at) (sym with_it)
 
   -- and taken out
@@ -386,7 +279,7 @@ module _ (slot : ℕ) (d : Direction) (es new : List Entry) (e : Entry) (one : I
       let mine = put_each (ranked slot d e) [] in
       ap (take_each mine) (sym come)
       ∙ taken_back mine (timed_of slot d e.0.tx es) (ranked_distinct mine (listed-ranked slot d e it_in_range.key.number it_in_range.event.event.0))
-      (all_foreign_apart e.0.seq mine (timed_of slot d e.0.tx es) (listed_each slot d e it_in_range.key.number it_in_range.event.event.0) stand_foreign)
+      (all_apart e.0.seq true mine (timed_of slot d e.0.tx es) (listed_each slot d e it_in_range.key.number it_in_range.event.event.0) stand_foreign)
 
   pub foreign : AreForeign (own_timed e.0.seq) (timed_of slot d e.0.tx es)
   foreign = are_foreign (own_timed e.0.seq) (timed_of slot d e.0.tx es) stand_foreign
@@ -395,10 +288,7 @@ module _ (slot : ℕ) (d : Direction) (es new : List Entry) (e : Entry) (one : I
 pub live_readings-more : (es new front : List Entry) (e : Entry) (back : List Entry) → IsOneMore es new front e back → live_readings new ≡ live_readings es + length e.1.event.readings
 live_readings-more es new front e back one =
     let f = λ (x : Entry). length x.1.event.readings in
-    let more = ap (sum_by f) one.more_live ∙ sum_by-append f front (e ∷ back) in
-    let less = ap (sum_by f) one.less_live ∙ sum_by-append f front back in
-    let cut = sum_by-cons f e back in
-    omega (arith, more, less, cut)
+    omega (arith, ap (sum_by f) one.more_live, sum_by-append f front (e ∷ back), ap (sum_by f) one.less_live, sum_by-append f front back, sum_by-cons f e back)
 
 -- The readings of another transaction stay.
 pub timed_else : (slot : ℕ) (d : Direction) (es new front : List Entry) (e : Entry) (back : List Entry) (u : List ℕ)
@@ -408,11 +298,11 @@ timed_else slot d es new front e back u one apart = ap (λ l. in_time at (flat_m
 -- A number is below those of entries.
 above_all : (n : ℕ) (es : List Entry) → laws.AreRising (n ∷ map (λ e. e.0.seq) es) → AllByRecursion (λ (e : Entry). n < e.0.seq) es
 above_all n [] up = tt
-above_all n (e ∷ es) up = (up.0, later n e.0.seq es up.0 (above_all e.0.seq es up.1))
+above_all n (e ∷ es) up = (up.0, later es (above_all e.0.seq es up.1))
   where
-    later : (m n : ℕ) (es : List Entry) → m < n → AllByRecursion (λ (e : Entry). n < e.0.seq) es → AllByRecursion (λ (e : Entry). m < e.0.seq) es
-    later m n [] lt all = tt
-    later m n (e ∷ es) lt all = (let over : n < e.0.seq = all.0 in omega (arith, over, lt), later m n es lt all.1)
+    later : (fs : List Entry) → AllByRecursion (λ (f : Entry). e.0.seq < f.0.seq) fs → AllByRecursion (λ (f : Entry). n < f.0.seq) fs
+    later [] all = tt
+    later (f ∷ fs) all = (omega (arith, all.0, up.0), later fs all.1)
 
 rising_tail : (n : ℕ) (ns : List ℕ) → laws.AreRising (n ∷ ns) → laws.AreRising ns
 rising_tail n [] up = tt
@@ -470,7 +360,7 @@ bare_shown (t ∷ ts) = ap (λ rs. t.1 ∷ rs) (bare_shown ts)
 -- The live readings of a transaction, where its numbers rise.
 module _ (slot : ℕ) (d : Direction) (tx : List ℕ) (es : List Entry) (range : AreEntries es) (up : laws.AreRising (numbers_of tx es)) where
   live_range : AreEntries (live_of tx es)
-  live_range = entries_passed (λ e. bytes_eq tx e.0.tx) (live es) (entries_passed (λ e. not e.1.voided) es range)
+  live_range = AreEntries-filter (λ e. bytes_eq tx e.0.tx) (live es) (AreEntries-filter (λ e. not e.1.voided) es range)
 
   live_listed : AreListed (flat_map (ranked slot d) (live_of tx es))
   live_listed = entries_listed slot d (live_of tx es) live_range up

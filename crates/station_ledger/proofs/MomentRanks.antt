@@ -1,8 +1,9 @@
 -- Readings by rank: what a rank says, and how lists by rank change.
-use Rattle.std.{proofs.Common.{◌≡◌, ℕ, ◌+◌, ◌*◌, ◌/◌, ◌%◌, ◌^◌, ◌<◌, ◌≤◌, Bool, true, false, cond, not, ◌||◌, List, [], ◌∷◌, ◌++◌, length, refl, sym, ap, subst, ◌∙◌, ⊎_elim, eqb, arith}, specs.List.filter, proofs.lemmas.Nat.{div-mul-add, mod-mul-add}, proofs.lemmas.Bool.{cases_lt, cases_eq, eq-eqb, ne_eqb, eqb-false, lt-ltb, le-ltb, or_parts}}
-use Rattle.ledger_model.{specs.declared.reading.Direction.Direction, specs.declared.reading.Direction.TheVariants.{Import, Export}, specs.InTime.{put_in_time, AreInTime}, proofs.Callers.{put-behind, put-front, put-passed}}
+use Rattle.std.{proofs.Common.{◌≡◌, ℕ, ◌+◌, ◌*◌, ◌/◌, ◌%◌, ◌^◌, ◌<◌, ◌≤◌, Bool, true, false, cond, not, List, [], ◌∷◌, ◌++◌, length, refl, ap, ◌∙◌, eqb, arith}, specs.List.filter, proofs.lemmas.Nat.{div-mul-add, mod-mul-add}, proofs.lemmas.Bool.Decides.nat_tests, proofs.lemmas.Bool.{eq-eqb, ne_eqb}}
+use Rattle.ledger_model.{specs.declared.reading.Direction.Direction, specs.declared.reading.Direction.TheVariants.{Import, Export}, specs.InTime.{put_in_time, AreInTime}, proofs.Callers.{put-passed}}
 use Rattle.reading_index.{specs.Ranks.{number_of, owner, owner_of, place_of, rank}, specs.Timed.{Timed, from_on, has_rank, in_front, owned, without, AreAbove, AreRising}}
 use Rattle.key_index.proofs.Orders.{above_less}
+use Rattle.station_ledger.specs.ByMoment.{put_each}
 
 abbrev pub at : Timed → ℕ
 at t = t.0
@@ -37,99 +38,49 @@ ranked-in_time (t ∷ u ∷ ts) up = (let lt : t.0 < u.0 = up.0.0 in omega (arit
 
 put_behind : (n : ℕ) (x : Timed) (ts : List Timed) → n < x.0 → AreAbove n ts → AreAbove n (put_in_time at x ts)
 put_behind n x [] lt behind = (lt, tt)
-put_behind n x (t ∷ ts) lt behind = ⊎_elim
-    (λ (on : t.0 < x.0). subst (AreAbove n) (sym (put-behind at x t ts on)) (behind.0, put_behind n x ts lt behind.1))
-    (λ (end : x.0 ≤ t.0). subst (AreAbove n) (sym (put-front at x t ts end)) (lt, behind))
-    (cases_lt t.0 x.0)
+put_behind n x (t ∷ ts) lt behind = grind (arith, nat_tests, put_behind n x ts lt behind.1)
 
 -- A reading of a rank that none has is put in by rank.
 pub put-ranked : (x : Timed) (ts : List Timed) → AreRising ts → has_rank x.0 ts ≡ false → AreRising (put_in_time at x ts)
 put-ranked x [] up none = (tt, tt)
-put-ranked x (t ∷ ts) up none =
-    let parts = or_parts (eqb t.0 x.0) (has_rank x.0 ts) none in
-    ⊎_elim
-    (λ (on : t.0 < x.0). subst AreRising (sym (put-behind at x t ts on)) (put_behind t.0 x ts on up.0, put-ranked x ts up.1 parts.1))
-    (λ (end : x.0 ≤ t.0).
-    let apart : t.0 ≡ x.0 → ⊥ = eqb-false t.0 x.0 parts.0 in
-    let lt : x.0 < t.0 = strictly end apart in
-    subst AreRising (sym (put-front at x t ts end)) ((lt, above_less x.0 t.0 ts end up.0), up))
-    (cases_lt t.0 x.0)
-  where
-    strictly : {m n : ℕ} → m ≤ n → (n ≡ m → ⊥) → m < n
-    strictly {m} {n} le apart = ⊎_elim (λ (same : n ≡ m). absurd (apart same)) (λ (other : n ≡ m → ⊥). omega (arith, le, other)) (cases_eq n m)
+put-ranked x (t ∷ ts) up none = grind (arith, nat_tests, put-ranked x ts up.1, put_behind t.0 x ts, above_less x.0 t.0 ts)
 
 -- A rank is looked for among the readings of its owner.
 pub has_owned : (k : ℕ) (ts : List Timed) → has_rank k (owned (owner_of k) ts) ≡ has_rank k ts
 has_owned k [] = refl
-has_owned k (t ∷ ts) = ⊎_elim
-    (λ (same : owner_of t.0 ≡ owner_of k). ap (λ b. has_rank k (cond b (t ∷ owned (owner_of k) ts) (owned (owner_of k) ts))) (eq-eqb (owner_of t.0) (owner_of k) same)
-    ∙ ap (λ b. eqb t.0 k || b) (has_owned k ts))
-    (λ (apart : owner_of t.0 ≡ owner_of k → ⊥).
-    ap (λ b. has_rank k (cond b (t ∷ owned (owner_of k) ts) (owned (owner_of k) ts))) (ne_eqb (owner_of t.0) (owner_of k) apart) ∙ has_owned k ts
-    ∙ sym (ap (λ b. b || has_rank k ts) (ne_eqb t.0 k (λ (same : t.0 ≡ k). apart (ap owner_of same)))))
-    (cases_eq (owner_of t.0) (owner_of k))
+has_owned k (t ∷ ts) = grind (arith, nat_tests, has_owned k ts)
 
 pub length-put : (x : Timed) (ts : List Timed) → length (put_in_time at x ts) ≡ length ts + 1
 length-put x [] = omega arith
-length-put x (t ∷ ts) = ⊎_elim
-    (λ (on : t.0 < x.0). let rest : length (put_in_time at x ts) ≡ length ts + 1 = length-put x ts in let whole = ap length (put-behind at x t ts on) in omega (arith, rest, whole))
-    (λ (end : x.0 ≤ t.0). let whole = ap length (put-front at x t ts end) in omega (arith, whole))
-    (cases_lt t.0 x.0)
+length-put x (t ∷ ts) = grind (arith, nat_tests, length-put x ts)
 
 few_without : (k : ℕ) (ts : List Timed) → length (without k ts) ≤ length ts
 few_without k [] = omega arith
-few_without k (t ∷ ts) =
-    let rest : length (without k ts) ≤ length ts = few_without k ts in
-    elim (not (eqb t.0 k)) as (λ b. length (cond b (t ∷ without k ts) (without k ts)) ≤ length (t ∷ ts)) [ true ↦ omega (arith, rest) | false ↦ omega (arith, rest) ]
+few_without k (t ∷ ts) = grind (arith, nat_tests, few_without k ts)
 
 -- Where a reading has the rank, it goes.
 pub length-without : (k : ℕ) (ts : List Timed) → has_rank k ts ≡ true → length (without k ts) + 1 ≤ length ts
 length-without k [] some = cc
-length-without k (t ∷ ts) some = ⊎_elim
-    (λ (same : t.0 ≡ k). let rest = few_without k ts in let whole = ap (λ b. length (cond (not b) (t ∷ without k ts) (without k ts))) (eq-eqb t.0 k same) in omega (arith, rest, whole))
-    (λ (apart : t.0 ≡ k → ⊥).
-    let there : has_rank k ts ≡ true = sym (ap (λ b. b || has_rank k ts) (ne_eqb t.0 k apart)) ∙ some in
-    let rest : length (without k ts) + 1 ≤ length ts = length-without k ts there in
-    let whole = ap (λ b. length (cond (not b) (t ∷ without k ts) (without k ts))) (ne_eqb t.0 k apart) in omega (arith, rest, whole))
-    (cases_eq t.0 k)
+length-without k (t ∷ ts) some = grind (arith, nat_tests, few_without k ts, length-without k ts)
 
 -- From a rank on nothing is in front of it.
 front_none : (k n : ℕ) (ts : List Timed) → k ≤ n → AreAbove n ts → in_front k ts ≡ []
 front_none k n [] le behind = refl
-front_none k n (t ∷ ts) le behind = ap (λ b. cond b (t ∷ in_front k ts) (in_front k ts)) (le-ltb t.0 k (let lt : n < t.0 = behind.0 in omega (arith, lt, le))) ∙ front_none k n ts le behind.1
+front_none k n (t ∷ ts) le behind = grind (arith, nat_tests, front_none k n ts le behind.1)
 
 all_on : (k n : ℕ) (ts : List Timed) → k ≤ n → AreAbove n ts → from_on k ts ≡ ts
 all_on k n [] le behind = refl
-all_on k n (t ∷ ts) le behind = ap (λ b. cond (not b) (t ∷ from_on k ts) (from_on k ts)) (le-ltb t.0 k (let lt : n < t.0 = behind.0 in omega (arith, lt, le)))
-    ∙ ap (λ us. t ∷ us) (all_on k n ts le behind.1)
-
-front_cons : (k : ℕ) (t : Timed) (ts : List Timed) → t.0 < k → in_front k (t ∷ ts) ≡ t ∷ in_front k ts
-front_cons k t ts lt = ap (λ b. cond b (t ∷ in_front k ts) (in_front k ts)) (lt-ltb t.0 k lt)
-
-on_cons : (k : ℕ) (t : Timed) (ts : List Timed) → t.0 < k → from_on k (t ∷ ts) ≡ from_on k ts
-on_cons k t ts lt = ap (λ b. cond (not b) (t ∷ from_on k ts) (from_on k ts)) (lt-ltb t.0 k lt)
-
-front_end : (k : ℕ) (t : Timed) (ts : List Timed) → k ≤ t.0 → AreRising (t ∷ ts) → in_front k (t ∷ ts) ≡ []
-front_end k t ts le up = ap (λ b. cond b (t ∷ in_front k ts) (in_front k ts)) (le-ltb t.0 k le) ∙ front_none k t.0 ts le up.0
-
-on_end : (k : ℕ) (t : Timed) (ts : List Timed) → k ≤ t.0 → AreRising (t ∷ ts) → from_on k (t ∷ ts) ≡ t ∷ ts
-on_end k t ts le up = ap (λ b. cond (not b) (t ∷ from_on k ts) (from_on k ts)) (le-ltb t.0 k le) ∙ ap (λ us. t ∷ us) (all_on k t.0 ts le up.0)
+all_on k n (t ∷ ts) le behind = grind (arith, nat_tests, all_on k n ts le behind.1)
 
 -- By rank, those in front of a rank are in front of those from it on.
 pub parted : (k : ℕ) (ts : List Timed) → AreRising ts → ts ≡ in_front k ts ++ from_on k ts
 parted k [] up = refl
-parted k (t ∷ ts) up = ⊎_elim
-    (λ (lt : t.0 < k). ap (λ us. t ∷ us) (parted k ts up.1) ∙ sym (λ i. front_cons k t ts lt i ++ on_cons k t ts lt i))
-    (λ (le : k ≤ t.0). sym (λ i. front_end k t ts le up i ++ on_end k t ts le up i))
-    (cases_lt t.0 k)
+parted k (t ∷ ts) up = grind (arith, nat_tests, parted k ts up.1, front_none k t.0 ts, all_on k t.0 ts)
 
 -- A reading is put in between them.
 pub put-between : (x : Timed) (ts : List Timed) → AreRising ts → put_in_time at x ts ≡ in_front x.0 ts ++ x ∷ from_on x.0 ts
 put-between x [] up = refl
-put-between x (t ∷ ts) up = ⊎_elim
-    (λ (lt : t.0 < x.0). put-behind at x t ts lt ∙ ap (λ us. t ∷ us) (put-between x ts up.1) ∙ sym (λ i. front_cons x.0 t ts lt i ++ x ∷ on_cons x.0 t ts lt i))
-    (λ (le : x.0 ≤ t.0). put-front at x t ts le ∙ sym (λ i. front_end x.0 t ts le up i ++ x ∷ on_end x.0 t ts le up i))
-    (cases_lt t.0 x.0)
+put-between x (t ∷ ts) up = grind (arith, nat_tests, put-between x ts up.1, front_none x.0 t.0 ts, all_on x.0 t.0 ts)
 
 -- A reading of the owner is put in among the owner's, and one of another changes none of them.
 pub owned-put : (o : ℕ) (x : Timed) (ts : List Timed) → AreRising ts → owner_of x.0 ≡ o → owned o (put_in_time at x ts) ≡ put_in_time at x (owned o ts)
@@ -141,16 +92,7 @@ owned-put_else o x ts up apart = put-passed at (λ t. eqb (owner_of t.0) o) x ts
 -- Two tests pass the same in either order.
 filter_swap : (p q : Timed → Bool) (ts : List Timed) → filter p (filter q ts) ≡ filter q (filter p ts)
 filter_swap p q [] = refl
-filter_swap p q (t ∷ ts) =
-    (elim (q t) as (λ b. filter p (cond b (t ∷ filter q ts) (filter q ts)) ≡ cond (p t) (cond b (t ∷ filter q (filter p ts)) (filter q (filter p ts))) (filter q (filter p ts))) [
-      | true ↦ ap (λ us. cond (p t) (t ∷ us) us) (filter_swap p q ts)
-      | false ↦ filter_swap p q ts ∙ both (p t) (filter q (filter p ts))
-    ])
-    ∙ (elim (p t) as (λ b. cond b (filter q (t ∷ filter p ts)) (filter q (filter p ts)) ≡ filter q (cond b (t ∷ filter p ts) (filter p ts))) [ true ↦ refl | false ↦ refl ])
-  where
-    both : (b : Bool) (us : List Timed) → us ≡ cond b us us
-    both true us = refl
-    both false us = refl
+filter_swap p q (t ∷ ts) = grind (arith, filter_swap p q ts)
 
 -- What is taken out is taken out of the owner's.
 pub owned-without : (o k : ℕ) (ts : List Timed) → owned o (without k ts) ≡ without k (owned o ts)
@@ -158,10 +100,8 @@ owned-without o k ts = filter_swap (λ t. eqb (owner_of t.0) o) (λ t. not (eqb 
 
 pub owned-without_else : (o k : ℕ) (ts : List Timed) → (owner_of k ≡ o → ⊥) → owned o (without k ts) ≡ owned o ts
 owned-without_else o k [] apart = refl
-owned-without_else o k (t ∷ ts) apart = ⊎_elim
-    (λ (same : t.0 ≡ k).
-    ap (λ b. owned o (cond (not b) (t ∷ without k ts) (without k ts))) (eq-eqb t.0 k same) ∙ owned-without_else o k ts apart
-    ∙ sym (ap (λ b. cond b (t ∷ owned o ts) (owned o ts)) (ne_eqb (owner_of t.0) o (λ (is : owner_of t.0 ≡ o). apart (sym (ap owner_of same) ∙ is)))))
-    (λ (other : t.0 ≡ k → ⊥).
-    ap (λ b. owned o (cond (not b) (t ∷ without k ts) (without k ts))) (ne_eqb t.0 k other) ∙ ap (λ us. cond (eqb (owner_of t.0) o) (t ∷ us) us) (owned-without_else o k ts apart))
-    (cases_eq t.0 k)
+owned-without_else o k (t ∷ ts) apart = grind (arith, nat_tests, owned-without_else o k ts apart)
+
+pub length-put_each : (xs ts : List Timed) → length (put_each xs ts) ≡ length ts + length xs
+length-put_each [] ts = omega arith
+length-put_each (x ∷ xs) ts = omega (arith, length-put_each xs (put_in_time at x ts), length-put x ts)

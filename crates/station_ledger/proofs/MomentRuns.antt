@@ -1,49 +1,37 @@
 -- An event's readings that come or go, run by run.
-use Rattle.std.{proofs.Common.{◌≡◌, ℕ, ◌+◌, ◌*◌, ◌<◌, ◌≤◌, ◌⊎◌, inl, inr, true, false, cond, not, nat_lt, eqb, List, [], ◌∷◌, ◌++◌, Option, None, Some, length, take, drop, get_or, refl, sym, ap, subst, ◌∙◌, ⊎_elim, arith, append_assoc, length-append}, specs.List.AllByRecursion, proofs.lemmas.Bool.{cases_lt, cases_eq, lt-ltb, le-ltb}, proofs.lemmas.List.{append-nil, length-map}}
+use Rattle.std.{proofs.Common.{◌≡◌, ℕ, ◌+◌, ◌*◌, ◌<◌, ◌≤◌, ◌⊎◌, inl, inr, true, false, cond, nat_lt, eqb, List, [], ◌∷◌, ◌++◌, Option, None, Some, length, take, drop, get_or, refl, sym, ap, subst, ◌∙◌, ⊎_elim, arith, append_assoc, length-append}, specs.List.{AllByRecursion, sum_by}, proofs.lemmas.List.Sums.sum_by-append, proofs.lemmas.Bool.Decides.nat_tests, proofs.lemmas.Bool.{lt-ltb}, proofs.lemmas.List.{append-nil, length-map}}
 use Rattle.energy_flow.specs.Flow.{CanPlus, Energy, no_energy, plus}
-use Rattle.ledger_model.{specs.Periods.Periods, specs.Board.Flowed, specs.Deltas.{pairs_between, first_reading, last_reading}, specs.declared.reading.Direction.Direction, specs.Energy.{Pair, energy_over}, specs.Event.MeterReading, specs.InTime.{put_in_time, runs}, specs.Ranges.{greatest_reading, most_event_readings, most_readings}, proofs.Callers.{AreForeign, AreOwn, few_between}}
+use Rattle.ledger_model.{specs.Periods.Periods, specs.Board.Flowed, specs.Deltas.{pairs_between, first_reading, last_reading}, specs.declared.reading.Direction.Direction, specs.Energy.{Pair, difference, energy_over}, specs.Event.MeterReading, specs.InTime.{put_in_time, runs}, specs.Ranges.{greatest_reading, most_event_readings, most_readings}, proofs.Callers.{AreForeign, AreFrom, AreOwn, few_between}}
 use Rattle.event_chain.specs.declared.around.Sides.{Sides}
 use Rattle.quarter_table.{specs.Pairs.{rows_of, rows_with}, specs.Table.Table, proofs.Several.made_with}
 use Rattle.reading_index.{specs.Ranks.{number_of, owner_of}, specs.Timed.{Timed, first_of, from_on, in_front, last_of, owned, AreAbove, AreRising, AreBelow}, proofs.Listed.filter-ranked}
 use Rattle.key_index.proofs.Orders.{above_less, rising_parts, below_more, below_both}
-use Rattle.station_ledger.{specs.ByMoment.{bare, bare_one, beyond, fits, fitting, put_each}, specs.Quarters.{HasRoom, HoldsPairs, IsTableMoved, IsWork, quartered}, specs.declared.by_moment.Moved.Moved, specs.declared.pairs.Way.Way, specs.declared.pairs.Way.TheVariants.{Coming, Going}, specs.Runs.{came_of, gap_of, gone_of, own_timed, pairs_among, run_pairs, AreApart, AreExchanged, AreFew, AreSwapped, HasRoomWithout}, proofs.MomentRanks.{at, length-put, parted}, proofs.MomentWalks.{AreInFront, AreOver, FirstFails, LastFails, few_more, fitting-beyond, fitting-front, followed_fewer, first_bare, foreign_first, foreign_last, foreign_parts, has_room, in_front-append, in_front-under, last-append, last_bare, last_behind, moved_in, one_run_more, own_parts, put_each-append, put_each-before, put_each-row, put_each-under, ranked-apart, three_down, three_up, with_run}, proofs.Rows.rows_less, proofs.Walks.first_and_rest}
-
--- As many readings more.
-pub length-put_each : (xs ts : List Timed) → length (put_each xs ts) ≡ length ts + length xs
-length-put_each [] ts = omega arith
-length-put_each (x ∷ xs) ts = let rest = length-put_each xs (put_in_time at x ts) in let one = length-put x ts in omega (arith, rest, one)
+use Rattle.station_ledger.{specs.ByMoment.{bare, bare_one, beyond, fits, fitting, put_each}, specs.Quarters.{HasRoom, HoldsPairs, IsTableMoved, IsWork, quartered}, specs.declared.by_moment.Moved.Moved, specs.declared.pairs.Way.Way, specs.declared.pairs.Way.TheVariants.{Coming, Going}, specs.Runs.{came_of, gap_of, gone_of, own_timed, pairs_among, run_pairs, AreApart, AreExchanged, AreFew, AreSwapped, HasRoomWithout}, proofs.MomentRanks.{at, length-put_each, parted}, proofs.MomentWalks.{AreInFront, AreOver, FirstFails, LastFails, few_more, fitting-beyond, fitting-front, followed_fewer, first_bare, foreign_first, foreign_last, foreign_parts, has_room, in_front-append, in_front-under, last-append, last_bare, last_behind, moved_in, one_run_more, over-one, own_parts, put_each-append, put_each-before, put_each-row, put_each-under, ranked-apart, three_sums, with_run}, proofs.Rows.rows_less, proofs.Walks.first_and_rest}
 
 -- Below a rank stay those below it.
 under-put : (n : ℕ) (x : Timed) (ts : List Timed) → x.0 < n → AreBelow n ts → AreBelow n (put_in_time at x ts)
 under-put n x [] lt h = (lt, tt)
-under-put n x (t ∷ ts) lt h =
-    let rest = under-put n x ts lt h.1 in
-    elim (nat_lt t.0 x.0) as (λ b. AreBelow n (cond b (t ∷ put_in_time at x ts) (x ∷ t ∷ ts))) [ true ↦ (h.0, rest) | false ↦ (lt, h) ]
+under-put n x (t ∷ ts) lt h = grind (arith, under-put n x ts lt h.1)
 
 under-put_each : (n : ℕ) (xs ts : List Timed) → AreBelow n xs → AreBelow n ts → AreBelow n (put_each xs ts)
 under-put_each n [] ts h k = k
 under-put_each n (x ∷ xs) ts h k = under-put_each n xs (put_in_time at x ts) h.1 (under-put n x ts h.0 k)
 
--- Each is at a rank or above it.
-abbrev AreFromRank : ℕ → List Timed → Type 0
-AreFromRank n [] = Unit {0}
-AreFromRank n (t ∷ ts) = (n ≤ t.0) × AreFromRank n ts
-
-from-rising : (n : ℕ) (ts : List Timed) → AreAbove n ts → AreFromRank n ts
+from-rising : (n : ℕ) (ts : List Timed) → AreAbove n ts → AreFrom at n ts
 from-rising n [] h = tt
-from-rising n (t ∷ ts) h = (let a = h.0 in omega (arith, a), from-rising n ts h.1)
+from-rising n (t ∷ ts) h = (omega (arith, h.0), from-rising n ts h.1)
 
-from-parts : (n : ℕ) (ts us : List Timed) → AreFromRank n (ts ++ us) → AreFromRank n ts × AreFromRank n us
+from-parts : (n : ℕ) (ts us : List Timed) → AreFrom at n (ts ++ us) → AreFrom at n ts × AreFrom at n us
 from-parts n [] us h = (tt, h)
 from-parts n (t ∷ ts) us h = let rest = from-parts n ts us h.1 in ((h.0, rest.0), rest.1)
 
-over-under : (n : ℕ) (ts xs : List Timed) → AreBelow n ts → AreFromRank n xs → AreOver ts xs
+over-under : (n : ℕ) (ts xs : List Timed) → AreBelow n ts → AreFrom at n xs → AreOver ts xs
 over-under n ts [] h k = tt
 over-under n ts (x ∷ xs) h k = (below_more n x.0 ts k.0 h, over-under n ts xs h k.1)
 
 front-of : (n : ℕ) (xs us : List Timed) → AreBelow n xs → AreAbove n us → AreInFront xs us
 front-of n [] us h k = tt
-front-of n (x ∷ xs) us h k = (above_less x.0 n us (let a = h.0 in omega (arith, a)) k, front-of n xs us h.1 k)
+front-of n (x ∷ xs) us h k = (above_less x.0 n us (omega (arith, h.0)) k, front-of n xs us h.1 k)
 
 under-first : (xs us : List Timed) (u : Timed) → AreInFront xs (u ∷ us) → AreBelow u.0 xs
 under-first [] us u h = tt
@@ -51,32 +39,17 @@ under-first (x ∷ xs) us u h = (h.0.0, under-first xs us u h.1)
 
 -- An event's reading is no other's.
 apart : (seq : ℕ) (x y : Timed) → own_timed seq x ≡ true → own_timed seq y ≡ false → x.0 ≡ y.0 → ⊥
-apart seq x y mine other same = no (sym mine ∙ ap (λ n. eqb (number_of n) seq) same ∙ other)
-  where
-    no : true ≡ false → ⊥
-    no h = cc
-
-strictly : (m n : ℕ) → m ≤ n → (m ≡ n → ⊥) → m < n
-strictly m n le apart = ⊎_elim (λ (same : m ≡ n). absurd (apart same)) (λ (other : m ≡ n → ⊥). omega (arith, le, other)) (cases_eq m n)
+apart seq x y mine other same = let e : true ≡ false = sym mine ∙ ap (λ n. eqb (number_of n) seq) same ∙ other in cc
 
 -- The others from an event's reading on are behind it.
 from_on-behind : (seq : ℕ) (x : Timed) (ts : List Timed) → own_timed seq x ≡ true → AreForeign (own_timed seq) ts → AreAbove x.0 (from_on x.0 ts)
 from_on-behind seq x [] mine h = tt
-from_on-behind seq x (t ∷ ts) mine h = ⊎_elim
-    (λ (lt : t.0 < x.0). subst (λ b. AreAbove x.0 (cond (not b) (t ∷ from_on x.0 ts) (from_on x.0 ts))) (sym (lt-ltb t.0 x.0 lt)) (from_on-behind seq x ts mine h.1))
-    (λ (ge : x.0 ≤ t.0). subst (λ b. AreAbove x.0 (cond (not b) (t ∷ from_on x.0 ts) (from_on x.0 ts))) (sym (le-ltb t.0 x.0 ge))
-    (strictly x.0 t.0 ge (apart seq x t mine h.0), from_on-behind seq x ts mine h.1))
-    (cases_lt t.0 x.0)
+from_on-behind seq x (t ∷ ts) mine h = grind (arith, nat_tests, from_on-behind seq x ts mine h.1, apart seq x t mine h.0)
 
 -- Those that are beyond another reading are behind it.
 beyond-behind : (seq : ℕ) (y : Timed) (xs : List Timed) → own_timed seq y ≡ false → AreOwn (own_timed seq) xs → AreRising xs → AreAbove y.0 (beyond (Some y) xs)
 beyond-behind seq y [] other mine up = tt
-beyond-behind seq y (x ∷ xs) other mine up = ⊎_elim
-    (λ (lt : x.0 < y.0). subst (λ b. AreAbove y.0 (cond b (beyond (Some y) xs) (x ∷ xs))) (sym (lt-ltb x.0 y.0 lt)) (beyond-behind seq y xs other mine.1 up.1))
-    (λ (ge : y.0 ≤ x.0).
-    let more : y.0 < x.0 = strictly y.0 x.0 ge (λ e. apart seq x y mine.0 other (sym e)) in
-    subst (λ b. AreAbove y.0 (cond b (beyond (Some y) xs) (x ∷ xs))) (sym (le-ltb x.0 y.0 ge)) (more, above_less y.0 x.0 xs (omega (arith, more)) up.0))
-    (cases_lt x.0 y.0)
+beyond-behind seq y (x ∷ xs) other mine up = grind (arith, nat_tests, beyond-behind seq y xs other mine.1 up.1, apart seq x y mine.0 other, above_less y.0 x.0 xs)
 
 none_beyond : (xs : List Timed) → beyond None xs ≡ []
 none_beyond [] = refl
@@ -93,13 +66,18 @@ pairs-length t ts = followed_fewer t.1 (bare ts) ∙ length-map ts (λ (u : Time
 
 -- Fewer than readings, if there may be a reading.
 pairs-fewer : (ts : List Timed) (n : ℕ) → length ts ≤ n → 1 ≤ n → length (pairs_among ts) + 1 ≤ n
-pairs-fewer [] n le some = omega (arith, some)
-pairs-fewer (t ∷ ts) n le some = let one = pairs-length t ts in omega (arith, one, le)
+pairs-fewer [] n le some = omega (arith, le, some)
+pairs-fewer (t ∷ ts) n le some = omega (arith, pairs-length t ts, le)
+
+abbrev rise : Pair → ℕ
+rise p = (difference p).up
+
+abbrev fall : Pair → ℕ
+fall p = (difference p).down
 
 -- How many readings go and come.
 pub length-parts : (way : Way) (ts : List Timed) → length (gone_of way ts) + length (came_of way ts) ≡ length ts
-length-parts Coming ts = omega arith
-length-parts Going ts = omega arith
+length-parts way ts = grind arith
 
 -- A run among others, which comes or goes: what is in front of it and behind it, now and next.
 pub record IsRun (way : Way) (seq : ℕ) (before after : Option MeterReading) (run now next : List Timed) : Type 0 where
@@ -128,7 +106,7 @@ module _ {way : Way} {seq : ℕ} {before after : Option MeterReading} {run now n
   made ts = pairs_between before (bare ts) after
 
   pub run_some : 1 ≤ length run
-  run_some = let n = ap length r.run_is in omega (arith, n)
+  run_some = omega (arith, ap length r.run_is)
 
   -- there is one run more with it
   pub one_run : runs (own_timed seq) (r.front ++ (run ++ r.back)) ≡ runs (own_timed seq) (r.front ++ r.back) + 1
@@ -138,33 +116,28 @@ module _ {way : Way} {seq : ℕ} {before after : Option MeterReading} {run now n
 
   -- how many readings go and come
   pub gone_few : length (gone_of way run) ≤ length run
-  gone_few = let n = length-parts way run in omega (arith, n)
+  gone_few = omega (arith, length-parts way run)
 
   pub came_few : length (came_of way run) ≤ length run
-  came_few = let n = length-parts way run in omega (arith, n)
+  came_few = omega (arith, length-parts way run)
 
   pub made_few : (ts : List Timed) → length (made ts) ≤ length ts + 1
-  made_few ts = let few = few_between before (bare ts) after in let n = length-map ts (λ (t : Timed). t.1) in omega (arith, few, n)
+  made_few ts = omega (arith, few_between before (bare ts) after, length-map ts (λ (t : Timed). t.1))
 
   -- all pairs, with some readings there
   module _ {all : List Timed} (ts : List Timed) (is : all ≡ r.front ++ (ts ++ r.back)) where
     pub all_pairs : pairs_among all ≡ fa ++ (made ts ++ fb)
     all_pairs = ap pairs_among is ∙ with_run r.front ts r.back ∙ sym (λ i. fa ++ (pairs_between (r.before_is i) (bare ts) (r.after_is i) ++ fb))
 
-    pub all_up : (energy_over (pairs_among all)).up ≡ (energy_over (fa ++ fb)).up + (energy_over (made ts)).up
-    all_up = let a = ap (λ ps. (energy_over ps).up) all_pairs in let b = three_up fa (made ts) fb in let e = three_up fa [] fb in omega (arith, a, b, e)
-
-    pub all_down : (energy_over (pairs_among all)).down ≡ (energy_over (fa ++ fb)).down + (energy_over (made ts)).down
-    all_down = let a = ap (λ ps. (energy_over ps).down) all_pairs in let b = three_down fa (made ts) fb in let e = three_down fa [] fb in omega (arith, a, b, e)
+    pub all_sum : (f : Pair → ℕ) → sum_by f (pairs_among all) ≡ sum_by f (fa ++ fb) + sum_by f (made ts)
+    all_sum f = omega (arith, ap (sum_by f) all_pairs, three_sums f fa (made ts) fb, sum_by-append f fa fb)
 
   -- no more of them than the run makes
   pub all_few : (ts : List Timed) → length ts ≤ length run → length (fa ++ fb) + length (made ts) + 1 ≤ length (r.front ++ r.back) + length run
   all_few ts le =
-      let long = ap length (all_pairs ts refl) in
-      let a = length-append fa (made ts ++ fb) in let b = length-append (made ts) fb in let e = length-append fa fb in
-      let c = length-append r.front (ts ++ r.back) in let f = length-append ts r.back in let g = length-append r.front r.back in
-      let few = pairs-fewer (r.front ++ (ts ++ r.back)) (length (r.front ++ r.back) + length run) (omega (arith, c, f, g, le)) (omega (arith, run_some)) in
-      omega (arith, long, a, b, e, few)
+      let few = pairs-fewer (r.front ++ (ts ++ r.back)) (length (r.front ++ r.back) + length run)
+      (omega (arith, length-append r.front (ts ++ r.back), length-append ts r.back, length-append r.front r.back, le)) (omega (arith, run_some)) in
+      omega (arith, ap length (all_pairs ts refl), length-append fa (made ts ++ fb), length-append (made ts) fb, length-append fa fb, few)
 
   module _ (period : Periods) (d : Direction) (rest : List Flowed) where
     abbrev pub beside : List Flowed
@@ -180,8 +153,7 @@ AreTurns Going turns now total = turns + now ≤ total
 
 pub turn_counted : (way : Way) {seq : ℕ} {before after : Option MeterReading} {run now next : List Timed} (r : IsRun way seq before after run now next) (turns total : ℕ)
     → AreTurns way turns (runs (own_timed seq) now) total → AreTurns way (turns + 1) (runs (own_timed seq) next) total
-turn_counted Coming {seq = seq} r turns total h = let a = ap (runs (own_timed seq)) r.now_is in let b = ap (runs (own_timed seq)) r.next_is in omega (arith, h, a, b, one_run r)
-turn_counted Going {seq = seq} r turns total h = let a = ap (runs (own_timed seq)) r.now_is in let b = ap (runs (own_timed seq)) r.next_is in omega (arith, h, a, b, one_run r)
+turn_counted way {seq = seq} r turns total h = grind (arith, h, ap (runs (own_timed seq)) r.now_is, ap (runs (own_timed seq)) r.next_is, one_run r)
 
 -- Of the readings that were moved, and those that are left: the ones that are there.
 abbrev pub still : Way → List Timed → List Timed → List Timed
@@ -219,23 +191,14 @@ module _ (seq : ℕ) (others done left : List Timed) (x : Timed) (xs : List Time
   left_own : AreOwn (own_timed seq) left
   left_own = (own_parts (own_timed seq) done left own).1
 
-  x_own : own_timed seq x ≡ true
-  x_own = let h : AreOwn (own_timed seq) (x ∷ xs) = subst (AreOwn (own_timed seq)) left_is left_own in h.0
-
   left_rising : AreRising left
   left_rising = (rising_parts done left rising).1
 
   B_behind : AreAbove x.0 B
-  B_behind = from_on-behind seq x others x_own foreign
+  B_behind = from_on-behind seq x others (let h : AreOwn (own_timed seq) (x ∷ xs) = subst (AreOwn (own_timed seq)) left_is left_own in h.0) foreign
 
   parts_foreign : AreForeign (own_timed seq) F × AreForeign (own_timed seq) B
   parts_foreign = foreign_parts (own_timed seq) F B (subst (AreForeign (own_timed seq)) others_are foreign)
-
-  B_sorted : AreRising B
-  B_sorted = (rising_parts F B (subst AreRising others_are sorted)).1
-
-  F_under : AreBelow x.0 F
-  F_under = in_front-under x.0 others
 
   done_under : AreBelow x.0 done
   done_under = under-first done xs x (subst (AreInFront done) left_is (ranked-apart done left rising))
@@ -250,13 +213,12 @@ module _ (seq : ℕ) (others done left : List Timed) (x : Timed) (xs : List Time
   run_rising = (rising_parts run rest (subst AreRising (sym left_parts) left_rising)).0
 
   run_in_front : AreInFront run B
-  run_in_front = fitting-front B left B_sorted
+  run_in_front = fitting-front B left (rising_parts F B (subst AreRising others_are sorted)).1
 
-  from_left : AreFromRank x.0 left
-  from_left = subst (AreFromRank x.0) (sym left_is) (omega arith, from-rising x.0 xs (let h : AreRising (x ∷ xs) = subst AreRising left_is left_rising in h.0))
-
-  from_run : AreFromRank x.0 run × AreFromRank x.0 rest
-  from_run = from-parts x.0 run rest (subst (AreFromRank x.0) (sym left_parts) from_left)
+  from_run : AreFrom at x.0 run × AreFrom at x.0 rest
+  from_run =
+      let above : AreRising (x ∷ xs) = subst AreRising left_is left_rising in
+      from-parts x.0 run rest (subst (AreFrom at x.0) (sym (left_parts ∙ left_is)) (omega arith, from-rising x.0 xs above.0))
 
   run_first : run ≡ x ∷ fitting (first_of B) xs
   run_first = ap (fitting (first_of B)) left_is ∙ ap (λ b. cond b (x ∷ fitting (first_of B) xs) []) (fits-first x B B_behind)
@@ -289,7 +251,7 @@ module _ (seq : ℕ) (others done left : List Timed) (x : Timed) (xs : List Time
     run_is = run_first;
     now_is = there;
     next_is = put_each-append done run others ∙ ap (put_each run) there
-        ∙ put_each-under run (put_each done F) B (over-under x.0 (put_each done F) run (under-put_each x.0 done F done_under F_under) from_run.0)
+        ∙ put_each-under run (put_each done F) B (over-under x.0 (put_each done F) run (under-put_each x.0 done F done_under (in_front-under x.0 others)) from_run.0)
         ∙ ap (λ l. put_each done F ++ l) (put_each-row run B run_rising run_in_front);
     before_is = ap bare_one (sym ends.0) ∙ last_bare (put_each done F);
     after_is = first_bare B;
@@ -300,14 +262,11 @@ module _ (seq : ℕ) (others done left : List Timed) (x : Timed) (xs : List Time
     there : put_each done others ≡ put_each done F ++ B
     there = ap (put_each done) others_are ∙ put_each-before done F B (front-of x.0 done B done_under B_behind)
 
-    none_left : left ≡ [] → ⊥
-    none_left e = let same : x ∷ xs ≡ [] = sym left_is ∙ e in cc
-
     ends : (last_of (put_each done F) ≡ last_of F) × LastFails (own_timed seq) (put_each done F)
     ends = ⊎_elim
         (λ (none : done ≡ []). (ap (λ l. last_of (put_each l F)) none, subst (λ l. LastFails (own_timed seq) (put_each l F)) (sym none) (foreign_last (own_timed seq) F parts_foreign.0)))
         (λ (some : (left ≡ []) ⊎ AreParted done left others). ⊎_elim
-        (λ (e : left ≡ []). absurd (none_left e))
+        (λ (e : left ≡ []). let same : x ∷ xs ≡ [] = sym left_is ∙ e in cc)
         (λ (p : AreParted done left others). behind p) some) gap
       where
         behind : AreParted done left others → (last_of (put_each done F) ≡ last_of F) × LastFails (own_timed seq) (put_each done F)
@@ -337,10 +296,11 @@ module _ (seq : ℕ) (others done left : List Timed) (x : Timed) (xs : List Time
     run_is = run_first;
     now_is =
         ap (λ l. put_each l others) (sym left_parts) ∙ put_each-append run rest others
-        ∙ ap (put_each rest) (ap (put_each run) others_are ∙ put_each-under run F B (over-under x.0 F run F_under from_run.0) ∙ ap (λ l. F ++ l) (put_each-row run B run_rising run_in_front))
-        ∙ put_each-under rest F (run ++ B) (over-under x.0 F rest F_under from_run.1)
+        ∙ ap (put_each rest) (ap (put_each run) others_are ∙ put_each-under run F B (over-under x.0 F run (in_front-under x.0 others) from_run.0)
+        ∙ ap (λ l. F ++ l) (put_each-row run B run_rising run_in_front))
+        ∙ put_each-under rest F (run ++ B) (over-under x.0 F rest (in_front-under x.0 others) from_run.1)
         ∙ ap (λ l. F ++ l) (put_each-under rest run B (over_run run rest (subst AreRising (sym left_parts) left_rising)));
-    next_is = ap (put_each rest) others_are ∙ put_each-under rest F B (over-under x.0 F rest F_under from_run.1);
+    next_is = ap (put_each rest) others_are ∙ put_each-under rest F B (over-under x.0 F rest (in_front-under x.0 others) from_run.1);
     before_is = last_bare F;
     after_is = ap bare_one (sym (begins B refl).0) ∙ first_bare (put_each rest B);
     last_fails = foreign_last (own_timed seq) F parts_foreign.0;
@@ -348,15 +308,8 @@ module _ (seq : ℕ) (others done left : List Timed) (x : Timed) (xs : List Time
     own = run_own;
   } where
     over_run : (ts us : List Timed) → AreRising (ts ++ us) → AreOver ts us
-    over_run ts us h = all_over ts us (ranked-apart ts us h)
-      where
-        all_over : (ts us : List Timed) → AreInFront ts us → AreOver ts us
-        all_over ts [] h = tt
-        all_over ts (u ∷ us) h = (under-first ts us u h, all_over ts us (tails ts us u h))
-          where
-            tails : (ts us : List Timed) (u : Timed) → AreInFront ts (u ∷ us) → AreInFront ts us
-            tails [] us u h = tt
-            tails (t ∷ ts) us u h = (h.0.1, tails ts us u h.1)
+    over_run ts [] h = tt
+    over_run ts (u ∷ us) h = over-under u.0 ts (u ∷ us) (under-first ts us u (ranked-apart ts (u ∷ us) h)) (omega arith, from-rising u.0 us (rising_parts ts (u ∷ us) h).1.0)
 
     begins : (bs : List Timed) → B ≡ bs → (first_of (put_each rest B) ≡ first_of B) × FirstFails (own_timed seq) (put_each rest B)
     begins [] none =
@@ -365,12 +318,8 @@ module _ (seq : ℕ) (others done left : List Timed) (x : Timed) (xs : List Time
     begins (y ∷ ys) is =
         let fore : AreForeign (own_timed seq) (y ∷ ys) = subst (AreForeign (own_timed seq)) is parts_foreign.1 in
         let behind : AreAbove y.0 rest = subst (λ o. AreAbove y.0 (beyond o left)) (sym (ap first_of is)) (beyond-behind seq y left fore.0 left_own left_rising) in
-        let put : put_each rest B ≡ y ∷ put_each rest ys = ap (put_each rest) is ∙ put_each-under rest (y ∷ []) ys (over_one y rest behind) in
+        let put : put_each rest B ≡ y ∷ put_each rest ys = ap (put_each rest) is ∙ put_each-under rest (y ∷ []) ys (over-one y rest behind) in
         (ap first_of put ∙ sym (ap first_of is), subst (FirstFails (own_timed seq)) (sym put) fore.0)
-      where
-        over_one : (y : Timed) (us : List Timed) → AreAbove y.0 us → AreOver (y ∷ []) us
-        over_one y [] h = tt
-        over_one y (u ∷ us) h = ((h.0, tt), over_one y us h.1)
 
   -- a run that comes or goes
   pub next_run : (way : Way) → (done ≡ []) ⊎ ((left ≡ []) ⊎ AreParted done left others)
@@ -419,16 +368,18 @@ module _ {way : Way} {seq : ℕ} {period : Periods} {d : Direction} {before afte
   pub run_moved : IsMoving period d all left from now rest t less more
       → AreSwapped period d (made r (gone_of way run)) (made r (came_of way run)) t then w v m
       → IsMoving period d all beyond from next rest then (plus less m.less) (plus more m.more)
-  run_moved h s = record {
-    rows = put_back period d r rest s.left (made r (came_of way run)) (gone_left period d r rest t h.rows s.taken.quarters) s.added.quarters
-        ∙ sym (all_rows r period d rest (came_of way run) r.next_is);
-    up = omega (arith, h.up, all_up r (gone_of way run) r.now_is, all_up r (came_of way run) r.next_is, ap (λ (e : Energy). e.up) s.taken.sum.is, ap (λ (e : Energy). e.up) s.added.sum.is);
-    down = omega (arith, h.down, all_down r (gone_of way run) r.now_is, all_down r (came_of way run) r.next_is, ap (λ (e : Energy). e.down) s.taken.sum.is, ap (λ (e : Energy). e.down) s.added.sum.is);
-    less_up = omega (arith, h.less_up, s.taken.sum.up, made_few r (gone_of way run), gone_few r, long, run_some r);
-    less_down = omega (arith, h.less_down, s.taken.sum.down, made_few r (gone_of way run), gone_few r, long, run_some r);
-    more_up = omega (arith, h.more_up, s.added.sum.up, made_few r (came_of way run), came_few r, long, run_some r);
-    more_down = omega (arith, h.more_down, s.added.sum.down, made_few r (came_of way run), came_few r, long, run_some r);
-  }
+  run_moved h s =
+      let gone = all_sum r (gone_of way run) r.now_is in let came = all_sum r (came_of way run) r.next_is in
+      record {
+        rows = put_back period d r rest s.left (made r (came_of way run)) (gone_left period d r rest t h.rows s.taken.quarters) s.added.quarters
+            ∙ sym (all_rows r period d rest (came_of way run) r.next_is);
+        up = omega (arith, h.up, gone rise, came rise, ap (λ (e : Energy). e.up) s.taken.sum.is, ap (λ (e : Energy). e.up) s.added.sum.is);
+        down = omega (arith, h.down, gone fall, came fall, ap (λ (e : Energy). e.down) s.taken.sum.is, ap (λ (e : Energy). e.down) s.added.sum.is);
+        less_up = omega (arith, h.less_up, s.taken.sum.up, made_few r (gone_of way run), gone_few r, long, run_some r);
+        less_down = omega (arith, h.less_down, s.taken.sum.down, made_few r (gone_of way run), gone_few r, long, run_some r);
+        more_up = omega (arith, h.more_up, s.added.sum.up, made_few r (came_of way run), came_few r, long, run_some r);
+        more_down = omega (arith, h.more_down, s.added.sum.down, made_few r (came_of way run), came_few r, long, run_some r);
+      }
 
 -- There is room for the pairs that come.
 module _ {o seq : ℕ} {period : Periods} {d : Direction} {all others : List Timed} {ps : List Pair} {base : Table}
@@ -440,7 +391,7 @@ module _ {o seq : ℕ} {period : Periods} {d : Direction} {all others : List Tim
   few_now =
       let few : AreFew most_readings d (energy_over (pairs_among from)) rest = subst (λ qs. AreFew most_readings d (energy_over qs) rest) same a.few in
       few_more most_readings (2 * most_event_readings) d (energy_over (pairs_among from)) (energy_over (fa r ++ fb r)) rest few
-      (omega (arith, h.up, h.more_up, all_up r (gone_of way run) r.now_is, a.small)) (omega (arith, h.down, h.more_down, all_down r (gone_of way run) r.now_is, a.small))
+      (omega (arith, h.up, h.more_up, all_sum r (gone_of way run) r.now_is rise, a.small)) (omega (arith, h.down, h.more_down, all_sum r (gone_of way run) r.now_is fall, a.small))
 
   pub room_beside : {then : Table} (n : ℕ) → then.rows ≡ rows_of (beside r period d rest) → then.capacity ≡ t.capacity
       → length (fa r ++ fb r) + n + 1 ≤ length others + length all → n ≤ most_event_readings + 1 → HasRoom n then
@@ -602,37 +553,22 @@ turn_of o count entries {left = left} {x = x} done owned_by split some x_is befo
       next_is = next_is ∙ past;
     }
 
--- At the end nothing is left.
-pub none_left : {X : Type 0} (xs : List X) → length xs < 1 → xs ≡ []
-none_left [] h = refl
-none_left (x ∷ xs) h = absurd (omega (arith, h))
-
 -- At first all are there that go, and none that come.
 all_there : (way : Way) (all : List Timed) → gone_of way all ≡ still way [] all
-all_there Coming all = refl
-all_there Going all = refl
+all_there way all = grind arith
 
 no_turns : (way : Way) (seq : ℕ) (all others : List Timed) → AreTurns way 0 (runs (own_timed seq) (put_each (still way [] all) others)) (runs (own_timed seq) (put_each all others))
-no_turns Coming seq all others = omega arith
-no_turns Going seq all others = omega arith
+no_turns way seq all others = grind arith
 
-pub turning_start : (way : Way) {o seq : ℕ} {period : Periods} {d : Direction} {all others : List Timed} {base : Table} {rest : List Flowed} {w : ℕ} {less more : Energy}
-    → less ≡ no_energy → more ≡ no_energy
+pub turning_start : (way : Way) {o seq : ℕ} {period : Periods} {d : Direction} {all others : List Timed} {base : Table} {rest : List Flowed} {w : ℕ}
     → AreApart o seq period d all others (pairs_among (put_each (gone_of way all) others)) base rest
-    → IsTurning way seq period d all all others rest base w w less more
-turning_start way {seq = seq} {period = period} {d = d} {all = all} {others = others} {base = base} {rest = rest} {less = less} {more = more} no_less no_more a = record {
+    → IsTurning way seq period d all all others rest base w w no_energy no_energy
+turning_start way {seq = seq} {period = period} {d = d} {all = all} {others = others} {base = base} {rest = rest} a = record {
   done = [];
   split = refl;
   gap = inl refl;
-  moving = subst (λ l. IsMoving period d all all (put_each (gone_of way all) others) (put_each l others) rest base less more) (all_there way all) (record {
-    rows = a.rows;
-    up = omega (arith, ap (λ (e : Energy). e.up) no_less, ap (λ (e : Energy). e.up) no_more);
-    down = omega (arith, ap (λ (e : Energy). e.down) no_less, ap (λ (e : Energy). e.down) no_more);
-    less_up = omega (arith, ap (λ (e : Energy). e.up) no_less);
-    less_down = omega (arith, ap (λ (e : Energy). e.down) no_less);
-    more_up = omega (arith, ap (λ (e : Energy). e.up) no_more);
-    more_down = omega (arith, ap (λ (e : Energy). e.down) no_more);
-  });
+  moving = subst (λ l. IsMoving period d all all (put_each (gone_of way all) others) (put_each l others) rest base no_energy no_energy) (all_there way all)
+      (record { rows = a.rows; up = omega arith; down = omega arith; less_up = omega arith; less_down = omega arith; more_up = omega arith; more_down = omega arith });
   turns = 0;
   counted = no_turns way seq all others;
   spent = omega arith;
@@ -652,8 +588,7 @@ all_moved Coming all done left split none = sym (append-nil done) ∙ ap (λ l. 
 all_moved Going all done left split none = none
 
 all_turns : (way : Way) (turns now total : ℕ) (is : AreTurns way turns now total) → (way ≡ Coming → now ≡ total) → turns ≤ total
-all_turns Coming turns now total is all = let e = all refl in omega (arith, is, e)
-all_turns Going turns now total is all = omega (arith, is)
+all_turns way turns now total is all = grind (arith, is, all)
 
 -- What occurs once all runs came, or went.
 module _ {o seq : ℕ} {period : Periods} {d : Direction} {all others : List Timed} {ps : List Pair} {base : Table}

@@ -1,10 +1,12 @@
--- One more live event or less, its readings by rank: its pairs of each direction beside the others of the station.
-use Rattle.std.{proofs.Common.{◌≡◌, ℕ, ◌+◌, ◌*◌, ◌≤◌, ◌⊎◌, Bool, false, cond, not, ◌&&◌, List, [], ◌∷◌, ◌++◌, length, map, refl, sym, ap, subst, ◌∙◌, ⊎_elim, arith, length-append}, specs.List.{filter, flat_map, list_any, sum_by}, specs.Str.bytes_eq, proofs.lemmas.List.Sums.{sum_by-append, sum_by-cons}}
-use Rattle.energy_flow.specs.Flow.{Energy, plus}
-use Rattle.ledger_model.{proofs.Directions.each_way, specs.Periods.Periods, specs.declared.order.Order.TheVariants.Moment, specs.declared.reading.Direction.Direction, specs.declared.reading.Direction.TheVariants.{Import, Export}, specs.Board.Flowed, specs.BoardLaws.AreRising, specs.ByDirection.{in_direction, flows_toward}, specs.Content.{Entry, live, transactions_of}, specs.Deltas.{before_key, behind_key, IsOneMore}, specs.Energy.{Pair, all_pairs_by, difference, energy_by, energy_of_by, energy_over, followed, pairs_by, quarter_of}, specs.Event.{MeterReading, toward}, specs.Gaps.numbers_of, specs.InTime.{in_time, runs, runs_behind}, specs.Limits.Bounds, specs.Ranges.{greatest_reading, most_readings}, specs.ReadingOrder.{is_own, numbered_by}, proofs.Bounds.AreEntries-filter, proofs.Callers.{AreEntries, IsEntry, few_toward, own_numbered, station_moves, sum_by-flat_map, sum_by-map, transaction_moves}, proofs.SumsByTransaction.sum_by_one, proofs.TransactionLemmas.any-map}
+-- One live event that comes or goes, its readings by rank: an index with them, and its pairs of each direction beside the
+-- others of the station.
+use Rattle.std.{proofs.Common.{◌≡◌, ℕ, ◌+◌, ◌*◌, ◌<◌, ◌≤◌, ◌^◌, Bool, true, false, cond, not, ◌&&◌, List, [], ◌∷◌, ◌++◌, length, map, refl, sym, ap, subst, ◌∙◌, arith, length-append}, specs.List.{AllByRecursion, filter, flat_map, list_any, sum_by}, specs.Str.bytes_eq, proofs.lemmas.List.length-map, proofs.lemmas.List.Sums.sum_by-append}
+use Rattle.energy_flow.specs.Flow.{plus}
+use Rattle.event_chain.specs.Chains.{Chained}
+use Rattle.ledger_model.{proofs.EnergyLemmas.same_energy, specs.Periods.Periods, specs.declared.order.Order.TheVariants.Moment, specs.declared.reading.Direction.Direction, specs.declared.reading.Direction.TheVariants.{Import, Export}, specs.Board.Flowed, specs.ByDirection.{flows_toward}, specs.Content.{Entry, live, transactions_of}, specs.Deltas.{before_key, behind_key}, specs.Energy.{Pair, all_pairs_by, difference, energy_by, energy_of_by, energy_over, followed, pairs_by, quarter_of}, specs.Event.{MeterReading, toward}, specs.InTime.{in_time, runs, runs_behind}, specs.Key.KeyName, specs.Ranges.{greatest_reading, most_event_readings, most_readings}, specs.ReadingOrder.{is_own, numbered_by}, proofs.Callers.{IsEntry, few_toward, own_numbered, station_moves, sum_by-flat_map, sum_by-map, transaction_moves}, proofs.SumsByTransaction.sum_by_one, proofs.TransactionLemmas.any-map}
 use Rattle.quarter_table.{specs.Pairs.rows_of, specs.Table.Table, proofs.Made.made_alike}
-use Rattle.reading_index.{specs.Ranks.{number_of, owner}, specs.Timed.Timed}
-use Rattle.station_ledger.{specs.declared.by_moment.Moved.Moved, specs.ByMoment.{put_each, ranked, timed_of}, specs.Moved.IsExchanged, specs.Quarters.{both_quartered, quartered}, specs.declared.pairs.Way.Way, specs.declared.pairs.Way.TheVariants.{Coming, Going}, specs.Runs.{AreApart, AreExchanged, AreFew, by_way, came_of, gone_of, own_timed, pairs_among}, specs.Spent.{most_by_moment, most_in_runs}, specs.Sums.AreAllowed, proofs.Bounded.{few_down, few_pairs, few_up}, proofs.MomentLists.{bare-timed, come, foreign, length-listed, listed-owned, listed-own, listed-ranked, numbered-timed, timed-ranked}, proofs.MomentRuns.length-put_each, proofs.MomentWalks.followed_fewer, proofs.Moved.none_live, proofs.Rows.{long, other, each_toward, up_append, down_append, up_quartered, down_quartered}}
+use Rattle.reading_index.{specs.Ranks.{number_of, owner}, specs.Timed.{Timed, TimedReadings, AreRising, owned}}
+use Rattle.station_ledger.{specs.declared.by_moment.ByMoment.ByMoment, specs.declared.by_moment.Moved.Moved, specs.ByMoment.{live_readings, listed_of, put_each, ranked, ranked_from, take_each, timed_of}, specs.Exchange.IsMove, specs.Quarters.{IsWork, quartered, readings_at}, specs.declared.pairs.Way.Way, specs.declared.pairs.Way.TheVariants.{Coming, Going}, specs.Runs.{AreApart, AreExchanged, AreFew, AreMoved, AreToMove, CanMove, HaveMoved, HavePlace, by_way, came_of, gone_of, moved_each, moved_index, own_timed, pairs_among, side}, specs.Spent.{most_by_moment}, proofs.Bounded.{both_ways, few_pairs, few_station, part_le, IsUpTo}, proofs.MomentIndexes.{AreOf, fewer-take_each, own_puttable, owned-put_each, owned-put_each_else, owned-take_each, owned-take_each_else, ranked-put_each, ranked-take_each}, proofs.MomentLists.{bare-timed, come, foreign, go, it_in_range, length-listed, listed-owned, listed-own, listed-ranked, listed_each, live_readings-more, numbered-timed, stand_foreign, timed-ranked}, proofs.MomentRanks.{length-put_each, owner-apart}, proofs.MomentWalks.followed_fewer, proofs.Moved.none_live, proofs.Rows.{long, other, up_append, down_append, up_quartered, down_quartered}, proofs.Trades.ones}
 
 -- The pairs of a direction of the transactions other than one.
 abbrev pub others_in : Direction → List ℕ → List Entry → List Pair
@@ -22,68 +24,44 @@ split_quarters : (period : Periods) (d : Direction) (all mine others : List Pair
     → (measure : Flowed → ℕ) → sum_by measure (quartered period d all) ≡ sum_by measure (quartered period d mine) + sum_by measure (quartered period d others)
 split_quarters period d all mine others split measure =
     let shown : Pair → Flowed = λ p. (quarter_of period p, flows_toward d (difference p)) in
-    let whole = sum_by-map measure shown all in
-    let one = sum_by-map measure shown mine in
-    let two = sum_by-map measure shown others in
-    let parts = split (λ p. measure (shown p)) in
-    omega (arith, whole, one, two, parts)
+    omega (arith, sum_by-map measure shown all, sum_by-map measure shown mine, sum_by-map measure shown others, split (λ p. measure (shown p)))
 
-beside : (period : Periods) (d : Direction) (P : Direction → List Pair) (measure : Flowed → ℕ)
-    → sum_by measure (both_quartered period P) ≡ sum_by measure (quartered period d (P d)) + sum_by measure (quartered period (other d) (P (other d)))
-beside period Import P measure = sum_by-append measure (quartered period Import (P Import)) (quartered period Export (P Export))
-beside period Export P measure = let all = sum_by-append measure (quartered period Import (P Import)) (quartered period Export (P Export)) in omega (arith, all)
+-- The pairs of a direction, and those of the other.
+abbrev pub two_ways : Periods → Direction → List Pair → List Pair → List Flowed
+two_ways period Import mine theirs = quartered period Import mine ++ quartered period Export theirs
+two_ways period Export mine theirs = quartered period Import theirs ++ quartered period Export mine
 
-both_alike : (period : Periods) (d : Direction) (P : Direction → List Pair) (mine others : List Pair) → IsSplit (P d) mine others
-    → rows_of (both_quartered period P) ≡ rows_of (quartered period d mine ++ rest_of period d (P (other d)) others)
-both_alike period d P mine others split =
-    made_alike (both_quartered period P) (quartered period d mine ++ rest_of period d (P (other d)) others) (λ measure.
-    let whole = beside period d P measure in
-    let parts = split_quarters period d (P d) mine others split measure in
-    let one = sum_by-append measure (quartered period d mine) (rest_of period d (P (other d)) others) in
-    let two = sum_by-append measure (quartered period d others) (quartered period (other d) (P (other d))) in
-    omega (arith, whole, parts, one, two))
+beside : (period : Periods) (d : Direction) (mine theirs : List Pair) (measure : Flowed → ℕ)
+    → sum_by measure (two_ways period d mine theirs) ≡ sum_by measure (quartered period d mine) + sum_by measure (quartered period (other d) theirs)
+beside period Import mine theirs measure = sum_by-append measure (quartered period Import mine) (quartered period Export theirs)
+beside period Export mine theirs measure = omega (arith, sum_by-append measure (quartered period Import theirs) (quartered period Export mine))
 
--- Neither sum of an energy is more than so much.
-record IsUpTo (n : ℕ) (e : Energy) : Type 0 where
-  up : e.up ≤ n
-  down : e.down ≤ n
+both_alike : (period : Periods) (d : Direction) (all mine others theirs : List Pair) → IsSplit all mine others
+    → rows_of (two_ways period d all theirs) ≡ rows_of (quartered period d mine ++ rest_of period d theirs others)
+both_alike period d all mine others theirs split =
+    made_alike (two_ways period d all theirs) (quartered period d mine ++ rest_of period d theirs others) (λ measure.
+    let one = sum_by-append measure (quartered period d mine) (rest_of period d theirs others) in
+    let two = sum_by-append measure (quartered period d others) (quartered period (other d) theirs) in
+    omega (arith, beside period d all theirs measure, split_quarters period d all mine others split measure, one, two))
 
 few_beside : (period : Periods) (most : ℕ) (d : Direction) (mine others ps : List Pair)
     → (energy_over mine).up + (energy_over others).up ≤ greatest_reading * most
     → (energy_over mine).down + (energy_over others).down ≤ greatest_reading * most
     → IsUpTo (greatest_reading * most) (energy_over ps) → AreFew most d (energy_over mine) (rest_of period d ps others)
 few_beside period most d mine others ps up down small =
-    let a = quartered period d others in let b = quartered period (other d) ps in let m = energy_over mine in let o = energy_over others in let p = energy_over ps in
-    let ups = λ (k : Direction). each_toward k d (λ at beside. (at m).up + ((at o).up + (beside p).up) ≤ greatest_reading * most) (omega (arith, up)) (omega (arith, small.up)) in
-    let downs = λ (k : Direction). each_toward k d (λ at beside. (at m).down + ((at o).down + (beside p).down) ≤ greatest_reading * most) (omega (arith, down)) (omega (arith, small.down)) in
+    let a = quartered period d others in let b = quartered period (other d) ps in
     record {
-      up = λ k. omega (arith, ups k, up_append k a b, up_quartered k period d others, up_quartered k period (other d) ps);
-      down = λ k. omega (arith, downs k, down_append k a b, down_quartered k period d others, down_quartered k period (other d) ps);
+      up = λ k. grind (arith, up, small.up, up_append k a b, up_quartered k period d others, up_quartered k period (other d) ps);
+      down = λ k. grind (arith, down, small.down, down_append k a b, down_quartered k period d others, down_quartered k period (other d) ps);
     }
-
--- How many pairs are in a row.
-ones : (ps : List Pair) → sum_by (λ p. 1) ps ≡ length ps
-ones [] = refl
-ones (p ∷ ps) = let rest = ones ps in let one = sum_by-cons (λ (q : Pair). 1) p ps in omega (arith, rest, one)
 
 readings_few : (rs : List MeterReading) → length rs ≤ length (followed rs) + 1
 readings_few [] = omega arith
-readings_few (r ∷ rs) = let n = followed_fewer r rs in omega (arith, n)
+readings_few (r ∷ rs) = omega (arith, followed_fewer r rs)
 
 followed_grows : (rs ss : List MeterReading) → length rs ≤ length ss → length (followed rs) ≤ length (followed ss)
 followed_grows [] ss le = omega arith
-followed_grows (r ∷ rs) ss le = let n = followed_fewer r rs in let m = readings_few ss in omega (arith, n, m, le)
-
-bare_long : (ts : List Timed) → length (map (λ (t : Timed). t.1) ts) ≡ length ts
-bare_long [] = refl
-bare_long (t ∷ ts) = let rest = bare_long ts in omega (arith, rest)
-
-one_entry : (front : List Entry) (e : Entry) (back : List Entry) → AreEntries (front ++ e ∷ back) → IsEntry e
-one_entry [] e back all = all.0
-one_entry (x ∷ front) e back all = one_entry front e back all.1
-
-either_way : (Q : List Pair → Type 0) (ps qs rs : List Pair) → Q qs → Q rs → (ps ≡ qs) ⊎ (ps ≡ rs) → Q ps
-either_way Q ps qs rs a b h = ⊎_elim (λ (is : ps ≡ qs). subst Q (sym is) a) (λ (is : ps ≡ rs). subst Q (sym is) b) h
+followed_grows (r ∷ rs) ss le = omega (arith, followed_fewer r rs, readings_few ss, le)
 
 -- Runs by rank are runs of the numbers of events.
 runs_shown : (seq : ℕ) (front : Bool) (ts : List Timed) → runs_behind front (own_timed seq) ts ≡ runs_behind front (is_own seq) (map (λ (t : Timed). (number_of t.0, t.1)) ts)
@@ -94,217 +72,263 @@ runs_shown seq front (t ∷ ts) = ap (λ n. cond {A = ℕ} (own_timed seq t && n
 split_one : (d : Direction) (tx : List ℕ) (es : List Entry) → IsSplit (all_pairs_by Moment d es) (pairs_by Moment d tx es) (others_in d tx es)
 split_one d tx es f =
     let g : List ℕ → ℕ = λ u. sum_by f (pairs_by Moment d u es) in
-    let absent : list_any (bytes_eq tx) (map (λ (e : Entry). e.0.tx) (live es)) ≡ false
-    → g tx ≡ 0 = λ none. ap
-    (λ (xs : List Entry). sum_by f (followed (in_time (λ (r : MeterReading). r.moment) (flat_map (λ (e : Entry). toward d e.1.event.readings) xs))))
+    let absent : list_any (bytes_eq tx) (map (λ (e : Entry). e.0.tx) (live es)) ≡ false → g tx ≡ 0 = λ none.
+    ap (λ (xs : List Entry). sum_by f (followed (in_time (λ (r : MeterReading). r.moment) (flat_map (λ (e : Entry). toward d e.1.event.readings) xs))))
     (none_live tx es (sym (any-map tx (live es)) ∙ none)) in
     let whole = sum_by-flat_map f (λ u. pairs_by Moment d u es) (transactions_of (live es)) in
     let rest = sum_by-flat_map f (λ u. pairs_by Moment d u es) (filter (λ u. not (bytes_eq tx u)) (transactions_of (live es))) in
     omega (arith, whole, rest, sum_by_one g tx (map (λ (e : Entry). e.0.tx) (live es)) absent)
 
--- One more live event, under a slot.
-module _ (slot : ℕ) (limits : Bounds) (less more : List Entry) (e : Entry)
-    (one : IsOneMore less more (before_key e.0 less) e (behind_key e.0 less)) (small : AreAllowed Moment limits less)
-    (large : AreAllowed Moment limits more) (up_less : AreRising (numbers_of e.0.tx less))
-    (up_more : AreRising (numbers_of e.0.tx more)) where
+-- The directions of a slot have other owners.
+pub sides_apart : (slot : ℕ) → owner slot Import ≡ owner slot Export → ⊥
+sides_apart slot same = let e : Import ≡ Export = (owner-apart slot slot Import Export same).1 in cc
+
+-- How long a list is once so many came or went.
+abbrev pub IsLong : Way → ℕ → ℕ → ℕ → Type 0
+IsLong Coming n old new = new ≡ old + n
+IsLong Going n old new = new + n ≤ old
+
+-- A live event that comes or goes, its readings under a slot.
+module _ {way : Way} {less more : List Entry} {chains : Chained} {key : KeyName} {b : ByMoment} {period : Periods} {start : Table}
+    (is : IsMove way less more chains key b period start) (slot : ℕ) where
+  abbrev e : Entry
+  e = (key, is.event)
+
+  -- the events before, and those then
+  abbrev pub was : List Entry
+  was = by_way way less more
+
+  abbrev pub will : List Entry
+  will = by_way way more less
+
+  -- its readings, those of its transaction without it, and all
   abbrev pub its : Direction → List Timed
   its d = put_each (ranked slot d e) []
 
   abbrev pub standing : Direction → List Timed
-  standing d = timed_of slot d e.0.tx less
+  standing d = timed_of slot d key.tx less
 
   abbrev pub together : Direction → List Timed
   together d = put_each (its d) (standing d)
 
   abbrev others : Direction → List Pair
-  others d = others_in d e.0.tx less
+  others d = others_in d key.tx less
 
   abbrev all : Direction → List Entry → List Pair
   all d es = all_pairs_by Moment d es
 
   it : IsEntry e
-  it = one_entry (before_key e.0 less) e (behind_key e.0 less) (subst AreEntries one.more_live (AreEntries-filter (λ f. not f.1.voided) more large.in_range))
+  it = it_in_range slot Import less more e is.one is.large.in_range
 
-  together_is : (d : Direction) → together d ≡ timed_of slot d e.0.tx more
-  together_is d = come slot d less more e one large.in_range
+  number : key.seq < 2 ^ 31
+  number = omega (arith, it.key.number)
 
-  pairs_standing : (d : Direction) → pairs_among (standing d) ≡ pairs_by Moment d e.0.tx less
-  pairs_standing d = ap followed (bare-timed slot d e.0.tx less small.in_range up_less)
+  pub listed_is : (d : Direction) → listed_of slot d chains key ≡ its d
+  listed_is d = ap (λ rs. put_each (ranked_from (owner slot d) key.seq 0 rs) []) (is.readings d)
 
-  pairs_together : (d : Direction) → pairs_among (together d) ≡ pairs_by Moment d e.0.tx more
-  pairs_together d = ap pairs_among (together_is d) ∙ ap followed (bare-timed slot d e.0.tx more large.in_range up_more)
+  pub few_listed : (d : Direction) → length (readings_at d chains key) ≤ most_event_readings
+  few_listed d = omega (arith, ap length (is.readings d), few_toward d is.event.event.readings, is.few)
+
+  up : (d : Direction) → AreRising (its d)
+  up d = listed-ranked slot d e number is.few
+
+  mine : (d : Direction) → AreOf (owner slot d) (its d)
+  mine d = listed-owned slot d e number is.few it.event.readings
+
+  own : (d : Direction) → AllByRecursion (λ t. own_timed key.seq t ≡ true) (its d)
+  own d = listed_each slot d e number is.few
+
+  others_foreign : (d : Direction) → AllByRecursion (λ t. own_timed key.seq t ≡ false) (standing d)
+  others_foreign d = stand_foreign slot d less more e is.one is.large.in_range
+
+  together_is : (d : Direction) → together d ≡ timed_of slot d key.tx more
+  together_is d = come slot d less more e is.one is.large.in_range
+
+  -- how many they are
+  pub long_both : length (its Import) + length (its Export) ≡ length is.event.event.readings
+  long_both = omega (arith, length-listed slot Import e, length-listed slot Export e, both_ways is.event.event.readings)
+
+  pub room_more : live_readings more ≤ chains.limits.readings
+  room_more = omega (arith, part_le (λ (f : Entry). length f.1.event.readings) (λ f. not f.1.voided) more, is.large.readings_within)
+
+  pub grown : live_readings more ≡ live_readings less + length is.event.event.readings
+  grown = live_readings-more less more (before_key key less) e (behind_key key less) is.one
+
+  pairs_standing : (d : Direction) → pairs_among (standing d) ≡ pairs_by Moment d key.tx less
+  pairs_standing d = ap followed (bare-timed slot d key.tx less is.small.in_range (is.small.rising key.tx))
+
+  pairs_together : (d : Direction) → pairs_among (together d) ≡ pairs_by Moment d key.tx more
+  pairs_together d = ap pairs_among (together_is d) ∙ ap followed (bare-timed slot d key.tx more is.large.in_range (is.large.rising key.tx))
 
   split_less : (d : Direction) → IsSplit (all d less) (pairs_among (standing d)) (others d)
-  split_less d f = let whole = split_one d e.0.tx less f in let mine = ap (sum_by f) (pairs_standing d) in omega (arith, whole, mine)
+  split_less d f = omega (arith, split_one d key.tx less f, ap (sum_by f) (pairs_standing d))
 
   split_more : (d : Direction) → IsSplit (all d more) (pairs_among (together d)) (others d)
-  split_more d f =
-      let whole = split_one d e.0.tx less f in let mine = ap (sum_by f) (pairs_together d) in
-      let station = station_moves d less more e one Moment f in
-      let own = transaction_moves d less more e one Moment f in
-      omega (arith, whole, mine, station, own)
+  split_more d f = omega (arith, split_one d key.tx less f, ap (sum_by f) (pairs_together d), station_moves d less more e is.one Moment f, transaction_moves d less more e is.one Moment f)
 
-  long_together : (d : Direction) → length (together d) ≡ length (standing d) + length (its d)
-  long_together d = length-put_each (its d) (standing d)
-
-  grows : (d : Direction) → length (pairs_among (standing d)) ≤ length (pairs_among (together d))
-  grows d =
-      followed_grows (map (λ (t : Timed). t.1) (standing d)) (map (λ (t : Timed). t.1) (together d))
-      (let a = bare_long (standing d) in let b = bare_long (together d) in let c = long_together d in omega (arith, a, b, c))
+  long_together : (d : Direction) → length (map (λ (t : Timed). t.1) (together d)) ≡ length (standing d) + length (its d)
+  long_together d = omega (arith, length-map (together d) (λ (t : Timed). t.1), length-put_each (its d) (standing d))
 
   all_long : (d : Direction) → length (all d more) ≡ length (pairs_among (together d)) + length (others d)
-  all_long d = let a = split_more d (λ p. 1) in let b = ones (all d more) in let c = ones (pairs_among (together d)) in let f = ones (others d) in omega (arith, a, b, c, f)
+  all_long d = omega (arith, split_more d (λ p. 1), ones (all d more), ones (pairs_among (together d)), ones (others d))
 
   all_grow : (d : Direction) → length (all d less) ≤ length (all d more)
   all_grow d =
-      let a = split_less d (λ p. 1) in let b = ones (all d less) in let c = ones (pairs_among (standing d)) in let f = ones (others d) in
-      omega (arith, a, b, c, f, all_long d, grows d)
+      let grows = followed_grows (map (λ (t : Timed). t.1) (standing d)) (map (λ (t : Timed). t.1) (together d)) (omega (arith, length-map (standing d) (λ (t : Timed). t.1), long_together d)) in
+      omega (arith, split_less d (λ p. 1), ones (all d less), ones (pairs_among (standing d)), ones (others d), all_long d, grows)
 
-  readings_long : (d : Direction) → length (standing d) + length (its d) ≤ length (pairs_among (together d)) + 1
-  readings_long d = let n = readings_few (map (λ (t : Timed). t.1) (together d)) in let b = bare_long (together d) in omega (arith, n, b, long_together d)
+  both_few : (d : Direction) → length (all d more) + length (all (other d) more) ≤ chains.limits.readings
+  both_few d = grind (arith, few_pairs Moment more, is.large.readings_within)
 
-  both_few : (d : Direction) → length (all d more) + length (all (other d) more) ≤ limits.readings
-  both_few Import = omega (arith, few_pairs Moment more, large.readings_within)
-  both_few Export = omega (arith, few_pairs Moment more, large.readings_within)
+  -- the station's pairs of a direction: few, and small
+  pub record IsSide (d : Direction) (es : List Entry) : Type 0 where
+    count : length (all d es) ≤ length (all d more)
+    sum : IsUpTo (greatest_reading * most_readings) (energy_over (all d es))
 
-  -- a side of the station's pairs: few, and small
-  record IsSide (d : Direction) (ps : List Pair) : Type 0 where
-    count : length ps ≤ length (all d more)
-    sum : IsUpTo (greatest_reading * most_readings) (energy_over ps)
+  -- and those of some readings of the transaction among them
+  pub record AreParts (d : Direction) (ts : List Timed) (es : List Entry) : Type 0 where
+    pairs : pairs_among ts ≡ pairs_by Moment d key.tx es
+    split : IsSplit (all d es) (pairs_among ts) (others d)
+    pub whole : IsSide d es
 
-  side_less : (d : Direction) → IsSide d (all d less)
-  side_less d = record {
-    count = all_grow d;
-    sum = record {
-      up = omega (arith, few_up Moment d limits less small, small.most_readings_within);
-      down = omega (arith, few_down Moment d limits less small, small.most_readings_within);
+  parts_less : (d : Direction) → AreParts d (standing d) less
+  parts_less d = record {
+    pairs = pairs_standing d;
+    split = split_less d;
+    whole = record {
+      count = all_grow d;
+      sum = few_station Moment d chains.limits less is.small;
     };
   }
 
-  side_more : (d : Direction) → IsSide d (all d more)
-  side_more d = record {
-    count = omega arith;
-    sum = record {
-      up = omega (arith, few_up Moment d limits more large, large.most_readings_within);
-      down = omega (arith, few_down Moment d limits more large, large.most_readings_within);
+  parts_more : (d : Direction) → AreParts d (together d) more
+  parts_more d = record {
+    pairs = pairs_together d;
+    split = split_more d;
+    whole = record {
+      count = omega arith;
+      sum = few_station Moment d chains.limits more is.large;
     };
   }
 
-  -- before the readings come or go, and then
-  was_split : (way : Way) (d : Direction) → IsSplit (all d (by_way way less more)) (pairs_among (put_each (gone_of way (its d)) (standing d))) (others d)
-  was_split Coming d = split_less d
-  was_split Going d = split_more d
+  -- before its readings come or go, and then
+  pub parts_was : (w : Way) (d : Direction) → AreParts d (put_each (gone_of w (its d)) (standing d)) (by_way w less more)
+  parts_was Coming d = parts_less d
+  parts_was Going d = parts_more d
 
-  will_split : (way : Way) (d : Direction) → IsSplit (all d (by_way way more less)) (pairs_among (put_each (came_of way (its d)) (standing d))) (others d)
-  will_split Coming d = split_more d
-  will_split Going d = split_less d
+  pub parts_will : (w : Way) (d : Direction) → AreParts d (put_each (came_of w (its d)) (standing d)) (by_way w more less)
+  parts_will Coming d = parts_more d
+  parts_will Going d = parts_less d
 
-  was_side : (way : Way) (d : Direction) → IsSide d (all d (by_way way less more))
-  was_side Coming d = side_less d
-  was_side Going d = side_more d
+  -- an index with its readings of a direction put in, or taken out
+  pub have_place : (w : Way) (d : Direction) (index : TimedReadings)
+      → side slot d index ≡ timed_of slot d key.tx (by_way w less more)
+      → (w ≡ Coming → length index.entries + length (its d) ≤ index.capacity) → HavePlace w (its d) index
+  have_place Coming d index at room =
+      (room refl, own_puttable (owner slot d) key.seq (its d) index.entries (up d) (mine d) (own d) (subst (AllByRecursion (λ r. own_timed key.seq r ≡ false)) (sym at) (others_foreign d)))
+  have_place Going d index at room = tt
 
-  will_side : (way : Way) (d : Direction) → IsSide d (all d (by_way way more less))
-  will_side Coming d = side_more d
-  will_side Going d = side_less d
+  pub record IsNext (w : Way) (d : Direction) (index next : TimedReadings) : Type 0 where
+    pub rising : AreRising next.entries
+    pub own : side slot d next ≡ timed_of slot d key.tx (by_way w more less)
+    pub others : (o : ℕ) → (owner slot d ≡ o → ⊥) → owned o next.entries ≡ owned o index.entries
+    pub long : IsLong w (length (its d)) (length index.entries) (length next.entries)
+    bare : side slot d (by_way w index next) ≡ standing d
 
-  pairs_was : (way : Way) (d : Direction) → pairs_among (put_each (gone_of way (its d)) (standing d)) ≡ pairs_by Moment d e.0.tx (by_way way less more)
-  pairs_was Coming d = pairs_standing d
-  pairs_was Going d = pairs_together d
+  next_index : (w : Way) (d : Direction) (index next : TimedReadings) → AreRising index.entries
+      → side slot d index ≡ timed_of slot d key.tx (by_way w less more) → HavePlace w (its d) index
+      → next.entries ≡ moved_each w (its d) index.entries → IsNext w d index next
+  next_index Coming d index next rising at place entries = record {
+    rising = subst AreRising (sym entries) (ranked-put_each (its d) index.entries place.1 rising);
+    own = ap (owned (owner slot d)) entries ∙ owned-put_each (owner slot d) (its d) index.entries place.1 rising (mine d) ∙ ap (put_each (its d)) at ∙ together_is d;
+    others = λ o apart. ap (owned o) entries ∙ owned-put_each_else (owner slot d) o (its d) index.entries apart place.1 rising (mine d);
+    long = ap length entries ∙ length-put_each (its d) index.entries;
+    bare = at;
+  }
+  next_index Going d index next rising at place entries =
+      let left = ap (owned (owner slot d)) entries ∙ owned-take_each (owner slot d) (its d) index.entries ∙ ap (take_each (its d)) at ∙ go slot d less more e is.one is.large.in_range in
+      let fewer = fewer-take_each (owner slot d) key.seq (its d) (standing d) index.entries (up d) (mine d) (own d) (others_foreign d) (at ∙ sym (together_is d)) in
+      record {
+        rising = subst AreRising (sym entries) (ranked-take_each (its d) index.entries rising);
+        own = left;
+        others = λ o apart. ap (owned o) entries ∙ owned-take_each_else (owner slot d) o (its d) index.entries apart (mine d);
+        long = omega (arith, fewer, ap length entries);
+        bare = left;
+      }
 
-  pairs_will : (way : Way) (d : Direction) → pairs_among (put_each (came_of way (its d)) (standing d)) ≡ pairs_by Moment d e.0.tx (by_way way more less)
-  pairs_will Coming d = pairs_together d
-  pairs_will Going d = pairs_standing d
+  -- its readings of a direction are to be moved in an index, and their pairs in the periods, which have those of the other
+  -- direction of these events
+  pub record IsStep (d : Direction) (theirs : List Entry) (index : TimedReadings) (t : Table) : Type 0 where
+    pub rising : AreRising index.entries
+    pub at : side slot d index ≡ timed_of slot d key.tx was
+    pub rows : t.rows ≡ rows_of (two_ways period d (all d was) (all (other d) theirs))
+    pub room : t.capacity ≡ chains.limits.readings
+    pub beyond : IsSide (other d) theirs
+    pub place : HavePlace way (its d) index
 
-  module _ (period : Periods) where
-    apart_with : (d : Direction) (P : Direction → List Pair) (t : Table) (mine : List Pair)
-        → t.rows ≡ rows_of (both_quartered period P) → t.capacity ≡ limits.readings → IsSplit (P d) mine (others d) → IsSide d (P d)
-        → IsSide (other d) (P (other d))
-        → AreApart (owner slot d) e.0.seq period d (its d) (standing d) mine t (rest_of period d (P (other d)) (others d))
-    apart_with d P t mine rows room split side beyond =
-        let number = it.key.number in let few = it.event.event.0 in
-        let n = length-append (quartered period d (others d)) (quartered period (other d) (P (other d))) in
-        let s = length-listed slot d e in
+  module _ {d : Direction} {theirs : List Entry} {index : TimedReadings} {t : Table} (step : IsStep d theirs index t) where
+    abbrev rest : List Flowed
+    rest = rest_of period d (all (other d) theirs) (others d)
+
+    apart : AreApart (owner slot d) key.seq period d (its d) (standing d) (pairs_among (put_each (gone_of way (its d)) (standing d))) t rest
+    apart =
+        let parts = parts_was way d in let split = parts.split in
+        let n = length-append (quartered period d (others d)) (quartered period (other d) (all (other d) theirs)) in
+        let readings_long = readings_few (map (λ (x : Timed). x.1) (together d)) in
         record {
-          owned_by = listed-owned slot d e number few it.event.readings;
-          own = listed-own slot d e number few;
-          foreign = foreign slot d less more e one large.in_range;
-          rising = listed-ranked slot d e number few;
-          sorted = timed-ranked slot d e.0.tx less small.in_range up_less;
-          small = omega (arith, s, few, few_toward d e.1.event.readings);
-          rows = rows ∙ both_alike period d P mine (others d) split;
-          room = omega (arith, n, long period d (others d), long period (other d) (P (other d)), readings_long d, all_long d, both_few d, beyond.count, room);
-          few_rows = omega (arith, room, large.most_readings_within);
-          few = few_beside period most_readings d mine (others d) (P (other d))
-              (let a = split (λ p. (difference p).up) in omega (arith, a, side.sum.up))
-              (let a = split (λ p. (difference p).down) in omega (arith, a, side.sum.down))
-              beyond.sum;
+          owned_by = mine d;
+          own = listed-own slot d e number is.few;
+          foreign = foreign slot d less more e is.one is.large.in_range;
+          rising = up d;
+          sorted = timed-ranked slot d key.tx less is.small.in_range (is.small.rising key.tx);
+          small = omega (arith, length-listed slot d e, is.few, few_toward d is.event.event.readings);
+          rows = step.rows ∙ both_alike period d (all d was) (pairs_among (put_each (gone_of way (its d)) (standing d))) (others d) (all (other d) theirs) split;
+          room = omega (arith, n, long period d (others d), long period (other d) (all (other d) theirs), readings_long, long_together d, all_long d, both_few d, step.beyond.count, step.room);
+          few_rows = omega (arith, step.room, is.large.most_readings_within);
+          few = few_beside period most_readings d (pairs_among (put_each (gone_of way (its d)) (standing d))) (others d) (all (other d) theirs)
+              (omega (arith, split (λ p. (difference p).up), parts.whole.sum.up)) (omega (arith, split (λ p. (difference p).down), parts.whole.sum.down)) step.beyond.sum;
         }
 
-    module _ (way : Way) where
-      -- the events before, and those then
-      abbrev pub was : List Entry
-      was = by_way way less more
+    to_move : (next : TimedReadings) → next.entries ≡ moved_each way (its d) index.entries → AreToMove way (owner slot d) key.seq period d (its d) (by_way way index next) t rest
+    to_move next entries =
+        subst (λ l. AreApart (owner slot d) key.seq period d (its d) l (pairs_among (put_each (gone_of way (its d)) l)) t rest)
+        (sym (next_index way d index next step.rising step.at step.place entries).bare) apart
 
-      abbrev pub will : List Entry
-      will = by_way way more less
+    pub can_move : CanMove way period d (its d) index t
+    can_move = record { o = owner slot d; seq = key.seq; rest = rest; apart = to_move (moved_index way (its d) index) refl; place = step.place }
 
-      -- the pairs that are in the periods before its readings of a direction come or go
-      pub apart_moving : (d : Direction) (P : Direction → List Pair) (t : Table) → t.rows ≡ rows_of (both_quartered period P)
-          → t.capacity ≡ limits.readings → P d ≡ all d was → (P (other d) ≡ all (other d) was) ⊎ (P (other d) ≡ all (other d) will)
-          → AreApart (owner slot d) e.0.seq period d (its d) (standing d) (pairs_among (put_each (gone_of way (its d)) (standing d))) t (rest_of period d (P (other d)) (others d))
-      apart_moving d P t rows room here there =
-          apart_with d P t (pairs_among (put_each (gone_of way (its d)) (standing d))) rows room (λ f. ap (sum_by f) here ∙ was_split way d f) (subst (IsSide d) (sym here) (was_side way d))
-          (either_way (IsSide (other d)) (P (other d)) (all (other d) was) (all (other d) will) (was_side way (other d)) (will_side way (other d)) there)
+    module _ {next : TimedReadings} {u : Table} {w v : ℕ} {m : Moved} (moved : AreMoved way period d (its d) index next t u w v m) where
+      pub then : IsNext way d index next
+      then = next_index way d index next step.rising step.at step.place moved.entries
 
-      -- the rows once they came or went
-      pub rows_moved : (d : Direction) (P Q : Direction → List Pair) (next : Table) (m : Moved) → Q d ≡ all d will → Q (other d) ≡ P (other d)
-          → AreExchanged period d (pairs_among (put_each (gone_of way (its d)) (standing d)))
-          (pairs_among (put_each (came_of way (its d)) (standing d))) (rest_of period d (P (other d)) (others d)) next m
-          → next.rows ≡ rows_of (both_quartered period Q)
-      rows_moved d P Q next m here there x =
-          let came = pairs_among (put_each (came_of way (its d)) (standing d)) in
-          x.rows ∙ ap (λ ps. rows_of (quartered period d came ++ rest_of period d ps (others d))) (sym there)
-          ∙ sym (both_alike period d Q came (others d) (λ f. ap (sum_by f) here ∙ will_split way d f))
+      have : HaveMoved way (owner slot d) key.seq period d (its d) (by_way way index next) rest u w v m
+      have = moved.moved (owner slot d) key.seq rest (to_move next moved.entries)
+
+      exchanged : AreExchanged period d (pairs_among (put_each (gone_of way (its d)) (standing d))) (pairs_among (put_each (came_of way (its d)) (standing d))) rest u m
+      exchanged = subst (λ l. AreExchanged period d (pairs_among (put_each (gone_of way (its d)) l)) (pairs_among (put_each (came_of way (its d)) l)) rest u m) then.bare have.moved
+
+      pub rows_next : u.rows ≡ rows_of (two_ways period d (all d will) (all (other d) theirs))
+      rows_next = exchanged.rows ∙ sym (both_alike period d (all d will) (pairs_among (put_each (came_of way (its d)) (standing d))) (others d) (all (other d) theirs) (parts_will way d).split)
 
       -- what came and went of the energies
-      sums_moved : (d : Direction) (m : Moved) (rest : List Flowed) (next : Table)
-          → AreExchanged period d (pairs_among (put_each (gone_of way (its d)) (standing d))) (pairs_among (put_each (came_of way (its d)) (standing d))) rest next m
-          → (plus (energy_by Moment d will) m.less ≡ plus (energy_by Moment d was) m.more) × (plus (energy_of_by Moment d e.0.tx will) m.less ≡ plus (energy_of_by Moment d e.0.tx was) m.more)
-      sums_moved d m rest next x =
+      pub sums_moved : (plus (energy_by Moment d will) m.less ≡ plus (energy_by Moment d was) m.more)
+          × (plus (energy_of_by Moment d key.tx will) m.less ≡ plus (energy_of_by Moment d key.tx was) m.more)
+      sums_moved =
           let rise : Pair → ℕ = λ p. (difference p).up in let fall : Pair → ℕ = λ p. (difference p).down in
-          let up : (energy_by Moment d will).up + m.less.up ≡ (energy_by Moment d was).up + m.more.up = omega (arith, x.up, was_split way d rise, will_split way d rise) in
-          let down : (energy_by Moment d will).down + m.less.down ≡ (energy_by Moment d was).down + m.more.down = omega (arith, x.down, was_split way d fall, will_split way d fall) in
-          let own_up : (energy_of_by Moment d e.0.tx will).up + m.less.up ≡ (energy_of_by Moment d e.0.tx was).up + m.more.up =
-          omega (arith, x.up, ap (sum_by rise) (pairs_was way d), ap (sum_by rise) (pairs_will way d)) in
-          let own_down : (energy_of_by Moment d e.0.tx will).down + m.less.down ≡ (energy_of_by Moment d e.0.tx was).down + m.more.down =
-          omega (arith, x.down, ap (sum_by fall) (pairs_was way d), ap (sum_by fall) (pairs_will way d)) in
-          ((λ i. record { up = up i; down = down i }), (λ i. record { up = own_up i; down = own_down i }))
+          let old = parts_was way d in let new = parts_will way d in (
+            same_energy _ _ (omega (arith, exchanged.up, old.split rise, new.split rise)) (omega (arith, exchanged.down, old.split fall, new.split fall)),
+            same_energy _ _ (omega (arith, exchanged.up, ap (sum_by rise) old.pairs, ap (sum_by rise) new.pairs))
+                (omega (arith, exchanged.down, ap (sum_by fall) old.pairs, ap (sum_by fall) new.pairs)),
+          )
 
-      pub exchanged_both : (mi me : Moved) (import_rest export_rest : List Flowed) (import_next export_next : Table)
-          → AreExchanged period Import (pairs_among (put_each (gone_of way (its Import)) (standing Import)))
-          (pairs_among (put_each (came_of way (its Import)) (standing Import))) import_rest import_next mi
-          → AreExchanged period Export (pairs_among (put_each (gone_of way (its Export)) (standing Export)))
-          (pairs_among (put_each (came_of way (its Export)) (standing Export))) export_rest export_next me
-          → IsExchanged Moment e.0.tx was will (record { import = mi.less; export = me.less }) (record { import = mi.more; export = me.more })
-      exchanged_both mi me import_rest export_rest import_next export_next x y =
-          let a = sums_moved Import mi import_rest import_next x in let b = sums_moved Export me export_rest export_next y in
-          record {
-            station = each_way (λ d. plus (energy_by Moment d will) (in_direction d (record { import = mi.less; export = me.less }))
-                ≡ plus (energy_by Moment d was) (in_direction d (record { import = mi.more; export = me.more }))) a.0 b.0;
-            own = each_way (λ d. plus (energy_of_by Moment d e.0.tx will) (in_direction d (record { import = mi.less; export = me.less }))
-                ≡ plus (energy_of_by Moment d e.0.tx was) (in_direction d (record { import = mi.more; export = me.more }))) a.1 b.1;
-            up_few = each_way (λ d. (in_direction d (record { import = mi.more; export = me.more })).up ≤ greatest_reading * most_readings) (omega (arith, x.more_up)) (omega (arith, y.more_up));
-            down_few = each_way (λ d. (in_direction d (record { import = mi.more; export = me.more })).down ≤ greatest_reading * most_readings)
-                (omega (arith, x.more_down)) (omega (arith, y.more_down));
-          }
+      pub sums_few : (m.more.up ≤ greatest_reading * most_readings) × (m.more.down ≤ greatest_reading * most_readings)
+      sums_few = (omega (arith, exchanged.more_up), omega (arith, exchanged.more_down))
 
-  -- the work of a direction, by the runs of the order
-  pub spent_runs : (d : Direction) → length (its d) + 2 * runs (own_timed e.0.seq) (together d) ≤ most_by_moment d e.0 more
-  spent_runs d =
-      let own = own_numbered d less more e one Moment in let s = length-listed slot d e in
-      let r : runs (own_timed e.0.seq) (together d) ≡ runs (is_own e.0.seq) (numbered_by Moment d e.0.tx more) =
-      ap (runs (own_timed e.0.seq)) (together_is d) ∙ runs_shown e.0.seq false (timed_of slot d e.0.tx more) ∙ ap (runs (is_own e.0.seq)) (numbered-timed slot d e.0.tx more large.in_range up_more) in
-      omega (arith, own, s, r)
-
-  pub spent_both : (length (its Import) + 2 * runs (own_timed e.0.seq) (together Import)) + (length (its Export) + 2 * runs (own_timed e.0.seq) (together Export)) ≤ most_in_runs e.0 more
-  spent_both = omega (arith, spent_runs Import, spent_runs Export)
+      -- the work of a direction, by the runs of the order
+      pub work_next : IsWork (most_by_moment d key more) w v
+      work_next =
+          let work = subst (λ l. IsWork (length (its d) + 2 * runs (own_timed key.seq) (put_each (its d) l)) w v) then.bare have.work in
+          let r : runs (own_timed key.seq) (together d) ≡ runs (is_own key.seq) (numbered_by Moment d key.tx more) =
+          ap (runs (own_timed key.seq)) (together_is d) ∙ runs_shown key.seq false (timed_of slot d key.tx more)
+          ∙ ap (runs (is_own key.seq)) (numbered-timed slot d key.tx more is.large.in_range (is.large.rising key.tx)) in
+          record { bound = omega (arith, work.bound, own_numbered d less more e is.one Moment, length-listed slot d e, r); grows = work.grows }

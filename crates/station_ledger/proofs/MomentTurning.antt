@@ -1,18 +1,17 @@
 -- One live event that comes or goes: its readings come to those by moment, or go from them.
-use Rattle.std.{proofs.Common.{◌≡◌, ◌==◌, ℕ, ◌+◌, ◌<◌, ◌≤◌, inl, inr, true, cond, not, List, [], ◌∷◌, Option, None, is_some, length, refl, sym, ap, subst, ◌∙◌, arith, length-append, vec_capacity, false, Some}, proofs.lemmas.Bool.ne_eqb, specs.Str.bytes_eq, specs.Cmp.eq_by_cmp_equiv, proofs.lemmas.Bool.Decides.Decides-eqb}
+use Rattle.std.{proofs.Common.{◌≡◌, ◌==◌, ℕ, ◌+◌, ◌*◌, ◌<◌, ◌≤◌, false, cond, not, List, ◌∷◌, Option, None, Some, is_some, length, refl, sym, ap, subst, ◌∙◌, ⊎_elim, arith, length-append, vec_capacity}, specs.Str.bytes_eq, specs.Cmp.eq_by_cmp_equiv, proofs.lemmas.Bool.{cases_eq, ne_eqb}, proofs.lemmas.Bool.Decides.nat_tests}
 use Rattle.event_chain.{specs.Chains.{Chained, stored}, specs.Table.{Table as Slots, row_of, TxRow, without_row}, specs.declared.row.TableRow.TableRow}
 use Rattle.event_chain.specs.Table as table
-use Rattle.ledger_model.{specs.Periods.Periods, specs.Content.{Entry, live, live_of, transactions_of, has_transaction}, specs.declared.order.Order.TheVariants.Moment, specs.declared.reading.Direction.Direction, specs.declared.reading.Direction.TheVariants.{Import, Export}, specs.Deltas.{IsOneMore, before_key, behind_key, own_events}, specs.Energy.{Pair, all_pairs_by}, specs.Key.KeyName, specs.Ranges.most_event_readings, proofs.Callers.{live_else, live_with, transactions_more}}
-use Rattle.quarter_table.{specs.Pairs.rows_of, specs.Table.Table}
-use Rattle.reading_index.{specs.Ranks.owner, specs.Timed.{Timed, TimedReadings, AreRising, owned}}
-use Rattle.station_ledger.{specs.ByMoment.{put_each, ranked, timed_of, AreByMoment, IsSlotGiven, live_readings, listed_of}, specs.declared.by_moment.ByMoment.ByMoment, specs.declared.by_moment.Moved.Moved, specs.Moved.IsExchanged, specs.Quarters.{IsWork, both_quartered, readings_at}, specs.Spent.most_in_runs, specs.Sums.AreQuarterRows, proofs.MomentEvents.{IsTurned, by_moment_next, side_before, not_tied, by_moment_gone}, proofs.MomentLists.timed_else, proofs.Moved.{has_own, none_long}, specs.declared.pairs.Way.Way, specs.declared.pairs.Way.TheVariants.{Coming, Going}, specs.Exchange.IsMove, specs.Runs.{by_way, side, AreMoved, CanMove, HavePlace}, proofs.MomentMoves.{IsLong, of_both, sides_apart, slots_apart, few_listed, can_move, grown, have_place, listed_is, long, moved_else, moved_long, moved_own, moved_pairs, moved_ranked, moved_rows, moved_work, room_more}, proofs.MomentSides.{exchanged_both, spent_both}}
+use Rattle.ledger_model.{proofs.Directions.each_way, specs.Periods.Periods, specs.ByDirection.in_direction, specs.Content.{Entry, live, live_of, transactions_of, has_transaction}, specs.declared.by_direction.ByDirection.ByDirection, specs.declared.order.Order.TheVariants.Moment, specs.declared.reading.Direction.Direction, specs.declared.reading.Direction.TheVariants.{Import, Export}, specs.Deltas.{IsOneMore, before_key, behind_key, own_events}, specs.Energy.{energy_by, energy_of_by}, specs.Key.KeyName, specs.Ranges.{greatest_reading, most_event_readings, most_readings}, proofs.Callers.{live_else, live_with, transactions_more}}
+use Rattle.energy_flow.specs.Flow.{Energy, plus}
+use Rattle.quarter_table.specs.Table.{Table}
+use Rattle.reading_index.{specs.Ranks.owner, specs.Timed.{Timed, TimedReadings, owned}}
+use Rattle.station_ledger.{specs.ByMoment.{timed_of, AreByMoment, IsSlotGiven, live_readings, listed_of}, specs.declared.by_moment.ByMoment.ByMoment, specs.declared.by_moment.Moved.Moved, specs.Moved.IsExchanged, specs.Quarters.{IsWork, readings_at}, specs.Spent.most_in_runs, specs.Sums.AreQuarterRows, proofs.MomentEvents.{IsTurned, by_moment_then, side_before, not_tied}, proofs.MomentLists.timed_else, proofs.MomentRanks.owner-apart, proofs.Moved.has_own, specs.declared.pairs.Way.Way, specs.declared.pairs.Way.TheVariants.{Coming, Going}, specs.Exchange.IsMove, specs.Runs.{by_way, AreMoved, CanMove}, proofs.MomentSides.{IsLong, IsNext, IsStep, can_move, few_listed, grown, have_place, its, listed_is, long_both, parts_was, parts_will, room_more, rows_next, sides_apart, sums_few, sums_moved, then, work_next}}
 use Rattle.transaction_map.{proofs.Found.{found_out, length_out}, proofs.Rising.id_total}
 
 -- a transaction with this event has a live one
-has_live : (less more : List Entry) (front : List Entry) (e : Entry) (back : List Entry) → IsOneMore less more front e back → not (length (live_of e.0.tx more) == 0) ≡ true
-has_live less more front e back one =
-    let n = ap length (live_with less more front e back one) ∙ length-append (own_events e.0.tx front) (e ∷ own_events e.0.tx back) in
-    ap not (ne_eqb (length (live_of e.0.tx more)) 0 (λ h. absurd (omega (arith, h, n))))
+has_live : (less more : List Entry) (front : List Entry) (e : Entry) (back : List Entry) → IsOneMore less more front e back → 0 < length (live_of e.0.tx more)
+has_live less more front e back one = omega (arith, ap length (live_with less more front e back one), length-append (own_events e.0.tx front) (e ∷ own_events e.0.tx back))
 
 -- the rows without that of a transaction
 row_gone : (tx : List ℕ) (rows : List TxRow) → row_of tx (without_row tx rows) ≡ None
@@ -22,76 +21,53 @@ row_else : (tx u : List ℕ) (rows : List TxRow) → bytes_eq u tx ≡ false →
 row_else tx u rows other = found_out u tx rows ∙ ap (λ b. cond b None (row_of u rows)) (not_tied u tx other)
 
 rows_less : (tx : List ℕ) (rows : List TxRow) (row : TableRow) → table.AreRising rows → row_of tx rows ≡ Some row → length (without_row tx rows) + 1 ≡ length rows
-rows_less tx rows row rising there = let n = length_out tx rows rising in let one = ap (λ (o : Option TableRow). cond {A = ℕ} (is_some o) 1 0) there in omega (arith, n, one)
+rows_less tx rows row rising there = omega (arith, length_out tx rows rising, ap (λ (o : Option TableRow). cond {A = ℕ} (is_some o) 1 0) there)
 
--- There is room for readings that come, of one direction and then of the other.
+-- There is room for readings that come, of one direction and then of the other, and no more are in the index then than
+-- live events have.
 room_first : (way : Way) (n i e r less more : ℕ) → n ≤ by_way way less more → i + e ≡ r → more ≡ less + r → way ≡ Coming → n + i ≤ more
-room_first Coming n i e r less more few both grown comes = omega (arith, few, both, grown)
-room_first Going n i e r less more few both grown comes = cc
+room_first way n i e r less more few both grown comes = grind arith
 
 room_second : (way : Way) (n mid i e r less more : ℕ) → n ≤ by_way way less more → IsLong way i n mid → i + e ≡ r → more ≡ less + r → way ≡ Coming → mid + e ≤ more
-room_second Coming n mid i e r less more few long both grown comes = omega (arith, few, long, both, grown)
-room_second Going n mid i e r less more few long both grown comes = cc
+room_second way n mid i e r less more few long both grown comes = grind arith
 
--- No more are in the index then than live events have.
 few_both : (way : Way) (n mid last i e r less more : ℕ) → n ≤ by_way way less more → IsLong way i n mid → IsLong way e mid last → i + e ≡ r → more ≡ less + r → last ≤ by_way way more less
-few_both Coming n mid last i e r less more few one two both grown = omega (arith, few, one, two, both, grown)
-few_both Going n mid last i e r less more few one two both grown = omega (arith, few, one, two, both, grown)
-
-sum_then : (way : Way) (es fs : List Entry) → live_readings (by_way way es fs) ≡ by_way way (live_readings es) (live_readings fs)
-sum_then Coming es fs = refl
-sum_then Going es fs = refl
+few_both way n mid last i e r less more few one two both grown = grind arith
 
 -- What is the same with an event and without it is so before and then.
 same_then : (way : Way) {X Y : Type 0} (f : X → Y) (less more : X) → f more ≡ f less → f (by_way way more less) ≡ f (by_way way less more)
 same_then Coming f less more same = same
 same_then Going f less more same = sym same
 
+sum_then : (way : Way) (es fs : List Entry) → live_readings (by_way way es fs) ≡ by_way way (live_readings es) (live_readings fs)
+sum_then Coming es fs = refl
+sum_then Going es fs = refl
+
 -- What a transaction with a live event has among events with it.
 pub room_for_slot : (way : Way) {less more : List Entry} {chains : Chained} {key : KeyName} {b : ByMoment} {period : Periods} {t : Table}
     → IsMove way less more chains key b period t → row_of key.tx b.slots.rows ≡ None → length b.slots.rows < b.slots.capacity
-room_for_slot Coming {less = less} {more = more} {key = key} {b = b} is none =
-    let n = transactions_more less more (before_key key less) (key, is.event) (behind_key key less) is.one
-    ∙ (λ i. cond ((has_own key.tx (live less) ∙ sym (is.timed.slots.each key.tx)) i) (sym is.timed.slots.number i) (sym is.timed.slots.number i + 1))
-    ∙ ap (λ (o : Option _). cond (is_some o) (length b.slots.rows) (length b.slots.rows + 1)) none in
-    let w = is.large.figures_within.transactions in let r = is.timed.slots.room in
-    omega (arith, n, w, r)
-room_for_slot Going {less = less} {more = more} {key = key} {b = b} is none =
-    absurd (no (sym (ap is_some none) ∙ is.timed.slots.each key.tx ∙ has_live less more (before_key key less) (key, is.event) (behind_key key less) is.one))
-  where
-    no : false ≡ true → ⊥
-    no f = cc
+room_for_slot Coming {less = less} {more = more} {key = key} is none =
+    let n = transactions_more less more (before_key key less) (key, is.event) (behind_key key less) is.one in let s = is.timed.slots in
+    grind (arith, nat_tests, n, has_own key.tx (live less), s.each key.tx, s.number, none, is.large.figures_within.transactions, s.room)
+room_for_slot Going {less = less} {more = more} {key = key} is none =
+    grind (arith, nat_tests, is.timed.slots.each key.tx, has_live less more (before_key key less) (key, is.event) (behind_key key less) is.one, none)
 
 -- There are as many slots then as transactions of the events with it.
 slots_more : (way : Way) {less more : List Entry} {chains : Chained} {key : KeyName} {b : ByMoment} {period : Periods} {t : Table} {slots : Slots} {slot : ℕ}
     → IsMove way less more chains key b period t → IsSlotGiven key.tx b.slots slots slot
     → length slots.rows ≡ length (transactions_of (live more))
 slots_more Coming {less = less} {more = more} {key = key} is given =
-    given.number
-    ∙ sym (transactions_more less more (before_key key less) (key, is.event) (behind_key key less) is.one
-    ∙ (λ i. cond ((has_own key.tx (live less) ∙ sym (is.timed.slots.each key.tx)) i) (sym is.timed.slots.number i) (sym is.timed.slots.number i + 1)))
-slots_more Going {less = less} {more = more} {key = key} {b = b} is given =
-    given.number
-    ∙ ap (λ x. cond x (length b.slots.rows) (length b.slots.rows + 1)) (is.timed.slots.each key.tx ∙ has_live less more (before_key key less) (key, is.event) (behind_key key less) is.one)
-    ∙ is.timed.slots.number
+    let n = transactions_more less more (before_key key less) (key, is.event) (behind_key key less) is.one in
+    grind (arith, nat_tests, given.number, n, has_own key.tx (live less), is.timed.slots.each key.tx, is.timed.slots.number)
+slots_more Going {less = less} {more = more} {key = key} is given =
+    grind (arith, nat_tests, given.number, is.timed.slots.each key.tx, has_live less more (before_key key less) (key, is.event) (behind_key key less) is.one, is.timed.slots.number)
 
--- With a live event then, there is a slot for each transaction.
-slots_then : (way : Way) (tx : List ℕ) (less more : List Entry) (n : ℕ) → n ≡ length (transactions_of (live more))
+-- With a live event then, there is a slot for each transaction; with none, there is one less.
+slots_then : (way : Way) (tx : List ℕ) (less more : List Entry) (n : ℕ) → 0 < length (live_of tx more) → n ≡ length (transactions_of (live more))
     → length (transactions_of (live more)) ≡ cond (has_transaction tx (live less)) (length (transactions_of (live less))) (length (transactions_of (live less)) + 1)
-    → (length (live_of tx (by_way way more less)) ≡ 0 → ⊥) → n ≡ length (transactions_of (live (by_way way more less)))
-slots_then Coming tx less more n is one some = is
-slots_then Going tx less more n is one some = is ∙ one
-    ∙ ap (λ h. cond h (length (transactions_of (live less))) (length (transactions_of (live less)) + 1)) (has_own tx (live less) ∙ ap not (ne_eqb (length (live_of tx less)) 0 some))
-
--- With none, there is one less.
-slots_less : (way : Way) (tx : List ℕ) (less more : List Entry) (n : ℕ) → not (length (live_of tx more) == 0) ≡ true
-    → n ≡ length (transactions_of (live more))
-    → length (transactions_of (live more)) ≡ cond (has_transaction tx (live less)) (length (transactions_of (live less))) (length (transactions_of (live less)) + 1)
-    → length (live_of tx (by_way way more less)) ≡ 0 → n ≡ length (transactions_of (live (by_way way more less))) + 1
-slots_less Coming tx less more n lives is one none = let f : false ≡ true = sym (ap not ((Decides-eqb (length (live_of tx more)) 0).1 none)) ∙ lives in cc
-slots_less Going tx less more n lives is one none = is ∙ one
-    ∙ ap (λ h. cond h (length (transactions_of (live less))) (length (transactions_of (live less)) + 1))
-    (has_own tx (live less) ∙ ap not ((Decides-eqb (length (live_of tx less)) 0).1 none))
+    → n ≡ length (transactions_of (live (by_way way more less))) + cond (length (live_of tx (by_way way more less)) == 0) 1 0
+slots_then Coming tx less more n lives number one = grind (arith, nat_tests)
+slots_then Going tx less more n lives number one = grind (arith, nat_tests, has_own tx (live less))
 
 module _ {way : Way} {less more : List Entry} {chains : Chained} {key : KeyName} {b : ByMoment} {period : Periods} {t : Table} (is : IsMove way less more chains key b period t) where
   abbrev was : List Entry
@@ -106,7 +82,7 @@ module _ {way : Way} {less more : List Entry} {chains : Chained} {key : KeyName}
   one_more : length (transactions_of (live more)) ≡ cond (has_transaction key.tx (live less)) (length (transactions_of (live less))) (length (transactions_of (live less)) + 1)
   one_more = transactions_more less more (before_key key less) e (behind_key key less) is.one
 
-  lives : not (length (live_of key.tx more) == 0) ≡ true
+  lives : 0 < length (live_of key.tx more)
   lives = has_live less more (before_key key less) e (behind_key key less) is.one
 
   few_was : length b.index.entries ≤ by_way way (live_readings less) (live_readings more)
@@ -114,181 +90,128 @@ module _ {way : Way} {less more : List Entry} {chains : Chained} {key : KeyName}
 
   -- a transaction whose readings come has a live event
   pub some_live : way ≡ Coming → length (live_of key.tx (stored chains)) ≡ 0 → ⊥
-  some_live comes none =
-      no (sym (ap not ((Decides-eqb (length (live_of key.tx more)) 0).1
-      (ap (λ w. length (live_of key.tx (by_way w more less))) (sym comes) ∙ ap (λ es. length (live_of key.tx es)) is.now_are ∙ none))) ∙ lives)
-    where
-      no : false ≡ true → ⊥
-      no f = cc
+  some_live comes none = absurd (omega (arith, lives, ap (λ w. length (live_of key.tx (by_way w more less))) (sym comes) ∙ ap (λ es. length (live_of key.tx es)) is.now_are ∙ none))
 
   module _ {slots : Slots} {slot : ℕ} (given : IsSlotGiven key.tx b.slots slots slot) where
-    abbrev P : Direction → List Pair
-    P d = all_pairs_by Moment d was
-
-    abbrev Q : Direction → List Pair
-    Q = of_both (all_pairs_by Moment Import will) (all_pairs_by Moment Export was)
-
     abbrev S : Direction → List Timed
-    S d = put_each (ranked slot d e) []
-
-    before : (d : Direction) → side slot d b.index ≡ timed_of slot d key.tx was
-    before d = side_before is.timed given d
+    S d = its is slot d
 
     pub few_readings : (d : Direction) → length (readings_at d chains key) ≤ most_event_readings
-    few_readings d = few_listed chains is.one is.small is.large is.readings is.few slot d
+    few_readings d = few_listed is slot d
 
     listed : (d : Direction) {l : List Timed} → l ≡ listed_of slot d chains key → l ≡ S d
-    listed d l_is = l_is ∙ listed_is chains is.one is.small is.large is.readings is.few slot d
+    listed d l_is = l_is ∙ listed_is is slot d
 
-    first_place : HavePlace way (S Import) b.index
-    first_place = have_place chains is.one is.small is.large is.readings is.few slot way Import b.index (before Import)
-        (λ comes. let n =
-        room_first way (length b.index.entries) (length (S Import)) (length (S Export)) (length is.event.event.readings)
-        (live_readings less) (live_readings more) few_was (long chains is.one is.small is.large is.readings is.few slot)
-        (grown chains is.one is.small is.large is.readings is.few slot) comes in omega
-        (arith, n, room_more chains is.one is.small is.large is.readings is.few slot, is.timed.room))
+    first_step : IsStep is slot Import was b.index t
+    first_step = record {
+      rising = is.timed.in_order;
+      at = side_before is.timed given Import;
+      rows = is.rows.rows;
+      room = is.rows.room;
+      beyond = (parts_was is slot way Export).whole;
+      place = have_place is slot way Import b.index (side_before is.timed given Import) (λ comes.
+          let n = room_first way (length b.index.entries) (length (S Import)) (length (S Export)) (length is.event.event.readings)
+          (live_readings less) (live_readings more) few_was (long_both is slot) (grown is slot) comes in
+          omega (arith, n, room_more is slot, is.timed.room));
+    }
 
     pub first_move : {l : List Timed} → l ≡ listed_of slot Import chains key → CanMove way period Import l b.index t
-    first_move l_is =
-        subst (λ l. CanMove way period Import l b.index t) (sym (listed Import l_is))
-        (can_move chains is.one is.small is.large is.readings is.few slot way period Import b.index t is.timed.in_order (before Import) P
-        is.rows.rows is.rows.room refl (inl refl) first_place)
+    first_move l_is = subst (λ l. CanMove way period Import l b.index t) (sym (listed Import l_is)) (can_move is slot first_step)
 
     module _ {l : List Timed} (l_is : l ≡ listed_of slot Import chains key) {index : TimedReadings} {u : Table} {w v : ℕ} {m : Moved}
         (first : AreMoved way period Import l b.index index t u w v m) where
       moved : AreMoved way period Import (S Import) b.index index t u w v m
       moved = subst (λ s. AreMoved way period Import s b.index index t u w v m) (listed Import l_is) first
 
-      rows_meanwhile : u.rows ≡ rows_of (both_quartered period Q)
-      rows_meanwhile =
-          moved_rows chains is.one is.small is.large is.readings is.few slot way period Import b.index t is.timed.in_order (before Import) P
-          is.rows.rows is.rows.room refl (inl refl) first_place moved Q refl refl
+      mid : IsNext is slot way Import b.index index
+      mid = then is slot first_step moved
 
-      room_meanwhile : u.capacity ≡ chains.limits.readings
-      room_meanwhile = moved.room ∙ is.rows.room
-
-      rising_meanwhile : AreRising index.entries
-      rising_meanwhile =
-          moved_ranked chains is.one is.small is.large is.readings is.few slot way period Import b.index t is.timed.in_order (before Import)
-          P is.rows.rows is.rows.room refl (inl refl) first_place moved
-
-      long_meanwhile : IsLong way (length (S Import)) (length b.index.entries) (length index.entries)
-      long_meanwhile =
-          moved_long chains is.one is.small is.large is.readings is.few slot way period Import b.index t is.timed.in_order (before Import) P
-          is.rows.rows is.rows.room refl (inl refl) first_place moved
-
-      beside : side slot Export index ≡ timed_of slot Export key.tx was
-      beside = moved_else chains is.one is.small is.large is.readings is.few slot way period Import b.index t is.timed.in_order
-          (before Import) P is.rows.rows is.rows.room refl (inl refl) first_place moved (owner slot Export) (sides_apart slot)
-          ∙ before Export
-
-      second_place : HavePlace way (S Export) index
-      second_place =
-          have_place chains is.one is.small is.large is.readings is.few slot way Export index beside
-          (λ comes. let n =
-          room_second way (length b.index.entries) (length index.entries) (length (S Import)) (length (S Export))
-          (length is.event.event.readings) (live_readings less) (live_readings more) few_was long_meanwhile
-          (long chains is.one is.small is.large is.readings is.few slot) (grown chains is.one is.small is.large is.readings is.few slot)
-          comes in omega (arith, n, room_more chains is.one is.small is.large is.readings is.few slot, is.timed.room, moved.capacity))
+      second_step : IsStep is slot Export will index u
+      second_step =
+          let at = mid.others (owner slot Export) (sides_apart slot) ∙ side_before is.timed given Export in
+          record {
+            rising = mid.rising;
+            at = at;
+            rows = rows_next is slot first_step moved;
+            room = moved.room ∙ is.rows.room;
+            beyond = (parts_will is slot way Import).whole;
+            place = have_place is slot way Export index at (λ comes.
+                let n = room_second way (length b.index.entries) (length index.entries) (length (S Import)) (length (S Export))
+                (length is.event.event.readings) (live_readings less) (live_readings more) few_was mid.long (long_both is slot) (grown is slot) comes in
+                omega (arith, n, room_more is slot, is.timed.room, moved.capacity));
+          }
 
       pub second_move : {l : List Timed} → l ≡ listed_of slot Export chains key → CanMove way period Export l index u
-      second_move l_is =
-          subst (λ l. CanMove way period Export l index u) (sym (listed Export l_is))
-          (can_move chains is.one is.small is.large is.readings is.few slot way period Export index u rising_meanwhile beside Q rows_meanwhile room_meanwhile refl (inr refl) second_place)
+      second_move l_is = subst (λ l. CanMove way period Export l index u) (sym (listed Export l_is)) (can_move is slot second_step)
 
       module _ {k_of : List Timed} (k_is : k_of ≡ listed_of slot Export chains key) {last : TimedReadings} {x : Table} {y : ℕ}
           {k : Moved} (second : AreMoved way period Export k_of index last u x v y k) where
         again : AreMoved way period Export (S Export) index last u x v y k
         again = subst (λ s. AreMoved way period Export s index last u x v y k) (listed Export k_is) second
 
-        abbrev R : Direction → List Pair
-        R d = all_pairs_by Moment d will
+        end : IsNext is slot way Export index last
+        end = then is slot second_step again
 
         pub rows_then : AreQuarterRows Moment chains.limits (stored chains) period x
         rows_then = subst (λ es. AreQuarterRows Moment chains.limits es period x) is.now_are
-            (record {
-              rows =
-                  moved_rows chains is.one is.small is.large is.readings is.few slot way period Export index u rising_meanwhile beside Q
-                  rows_meanwhile room_meanwhile refl (inr refl) second_place again R refl refl;
-              room = again.room ∙ room_meanwhile;
-            })
+            (record { rows = rows_next is slot second_step again; room = again.room ∙ moved.room ∙ is.rows.room })
 
         pub all_then : IsExchanged Moment key.tx was (stored chains) (record { import = m.less; export = k.less }) (record { import = m.more; export = k.more })
         all_then =
-            subst (λ es. IsExchanged Moment key.tx was es (record { import = m.less; export = k.less }) (record { import = m.more; export = k.more })) is.now_are
-            (exchanged_both slot chains.limits less more e is.one is.small is.large (is.small.rising key.tx) (is.large.rising key.tx) period way m k _ _ u x
-            (moved_pairs chains is.one is.small is.large is.readings is.few slot way period Import b.index t is.timed.in_order (before Import)
-            P is.rows.rows is.rows.room refl (inl refl) first_place moved)
-            (moved_pairs chains is.one is.small is.large is.readings is.few slot way period Export index u rising_meanwhile beside Q rows_meanwhile room_meanwhile refl (inr refl) second_place again))
+            let less_of : ByDirection Energy = record { import = m.less; export = k.less } in let more_of : ByDirection Energy = record { import = m.more; export = k.more } in
+            let a = sums_moved is slot first_step moved in let b = sums_moved is slot second_step again in
+            let few = sums_few is slot first_step moved in let more_few = sums_few is slot second_step again in
+            subst (λ es. IsExchanged Moment key.tx was es less_of more_of) is.now_are (record {
+              station = each_way (λ d. plus (energy_by Moment d will) (in_direction d less_of) ≡ plus (energy_by Moment d was) (in_direction d more_of)) a.0 b.0;
+              own = each_way (λ d. plus (energy_of_by Moment d key.tx will) (in_direction d less_of) ≡ plus (energy_of_by Moment d key.tx was) (in_direction d more_of)) a.1 b.1;
+              up_few = each_way (λ d. (in_direction d more_of).up ≤ greatest_reading * most_readings) few.0 more_few.0;
+              down_few = each_way (λ d. (in_direction d more_of).down ≤ greatest_reading * most_readings) few.1 more_few.1;
+            })
 
         pub work_then : IsWork (most_in_runs key more) w y
         work_then =
-            let a = moved_work chains is.one is.small is.large is.readings is.few slot way period Import b.index t is.timed.in_order
-            (before Import) P is.rows.rows is.rows.room refl (inl refl) first_place moved in
-            let c = moved_work chains is.one is.small is.large is.readings is.few slot way period Export index u rising_meanwhile beside Q
-            rows_meanwhile room_meanwhile refl (inr refl) second_place again in
-            let n = spent_both slot chains.limits less more e is.one is.small is.large (is.small.rising key.tx) (is.large.rising key.tx) in
-            record { bound = omega (arith, a.bound, c.bound, n); grows = omega (arith, a.grows, c.grows) }
+            let a = work_next is slot first_step moved in let c = work_next is slot second_step again in
+            record { bound = omega (arith, a.bound, c.bound); grows = omega (arith, a.grows, c.grows) }
 
         own_then : (d : Direction) → owned (owner slot d) last.entries ≡ timed_of slot d key.tx will
-        own_then Import =
-            moved_else chains is.one is.small is.large is.readings is.few slot way period Export index u rising_meanwhile beside Q
-            rows_meanwhile room_meanwhile refl (inr refl) second_place again (owner slot Import) (λ s. sides_apart slot (sym s))
-            ∙ moved_own chains is.one is.small is.large is.readings is.few slot way period Import b.index t is.timed.in_order (before Import)
-            P is.rows.rows is.rows.room refl (inl refl) first_place moved
-        own_then Export =
-            moved_own chains is.one is.small is.large is.readings is.few slot way period Export index u rising_meanwhile beside Q
-            rows_meanwhile room_meanwhile refl (inr refl) second_place again
+        own_then Import = end.others (owner slot Import) (λ s. sides_apart slot (sym s)) ∙ mid.own
+        own_then Export = end.own
 
         turned : IsTurned key.tx slot was will b.index.entries last.entries
         turned = record {
           own = own_then;
-          others = λ d s apart. moved_else chains is.one is.small is.large is.readings is.few slot way period Export index u
-              rising_meanwhile beside Q rows_meanwhile room_meanwhile refl (inr refl) second_place again (owner s d)
-              (slots_apart slot s Export d apart)
-              ∙ moved_else chains is.one is.small is.large is.readings is.few slot way period Import b.index t is.timed.in_order (before Import)
-              P is.rows.rows is.rows.room refl (inl refl) first_place moved (owner s d) (slots_apart slot s Import d apart);
+          others = λ d s apart. end.others (owner s d) (λ same. apart (owner-apart slot s Export d same).0)
+              ∙ mid.others (owner s d) (λ same. apart (owner-apart slot s Import d same).0);
           same = λ s d o apart. same_then way (timed_of s d o) less more (timed_else s d less more (before_key key less) e (behind_key key less) o is.one apart);
           alive = λ o apart. same_then way (live_of o) less more (live_else less more (before_key key less) e (behind_key key less) o is.one apart);
-          ranked_next = moved_ranked chains is.one is.small is.large is.readings is.few slot way period Export index u rising_meanwhile
-              beside Q rows_meanwhile room_meanwhile refl (inr refl) second_place again;
+          ranked_next = end.rising;
         }
 
         few_then : length last.entries ≤ live_readings will
         few_then =
             subst (λ n. length last.entries ≤ n) (sym (sum_then way more less))
             (few_both way (length b.index.entries) (length index.entries) (length last.entries) (length (S Import)) (length (S Export))
-            (length is.event.event.readings) (live_readings less) (live_readings more) few_was long_meanwhile
-            (moved_long chains is.one is.small is.large is.readings is.few slot way period Export index u rising_meanwhile beside Q
-            rows_meanwhile room_meanwhile refl (inr refl) second_place again)
-            (long chains is.one is.small is.large is.readings is.few slot) (grown chains is.one is.small is.large is.readings is.few slot))
+            (length is.event.event.readings) (live_readings less) (live_readings more) few_was mid.long end.long (long_both is slot) (grown is slot))
 
-        -- the transaction has a live event still
-        pub timed_stays : (after : ByMoment) → table.AreApart slots.rows → after.slots ≡ slots → after.index ≡ last
-            → most_event_readings ≤ vec_capacity after.listed → (length (live_of key.tx (stored chains)) ≡ 0 → ⊥)
-            → AreByMoment chains.limits (stored chains) after
-        timed_stays after apart s i room some =
-            let still : length (live_of key.tx will) ≡ 0 → ⊥ = λ none. some (ap (λ es. length (live_of key.tx es)) (sym is.now_are) ∙ none) in
-            subst (λ es. AreByMoment chains.limits es after) is.now_are
-            (by_moment_next is.timed given apart turned after s (ap (λ (j : TimedReadings). j.entries) i) (ap (λ (j : TimedReadings). j.capacity) i ∙ again.capacity ∙ moved.capacity) room
-            (ap not (ne_eqb (length (live_of key.tx will)) 0 still))
-            (slots_then way key.tx less more _ (slots_more way is given) one_more still)
-            few_then)
+        slots_will : length slots.rows ≡ length (transactions_of (live will)) + cond (length (live_of key.tx will) == 0) 1 0
+        slots_will = slots_then way key.tx less more _ lives (slots_more way is given) one_more
 
-        -- or none
-        pub timed_goes : (after : ByMoment) → table.AreApart slots.rows → table.AreRising slots.rows
-            → after.slots.rows ≡ without_row key.tx slots.rows → after.slots.capacity ≡ slots.capacity → after.index ≡ last
-            → most_event_readings ≤ vec_capacity after.listed → length (live_of key.tx (stored chains)) ≡ 0
-            → AreByMoment chains.limits (stored chains) after
-        timed_goes after apart risen rows cap i room gone =
-            let none : length (live_of key.tx will) ≡ 0 = ap (λ es. length (live_of key.tx es)) is.now_are ∙ gone in
-            subst (λ es. AreByMoment chains.limits es after) is.now_are
-            (by_moment_gone is.timed given apart turned after
-            (λ u other. ap (row_of u) rows ∙ row_else key.tx u slots.rows other)
-            (ap (row_of key.tx) rows ∙ row_gone key.tx slots.rows)
-            cap (ap (λ (j : TimedReadings). j.entries) i) (ap (λ (j : TimedReadings). j.capacity) i ∙ again.capacity ∙ moved.capacity) room
-            (none_long (live_of key.tx will) none)
-            (let n = rows_less key.tx slots.rows given.row risen given.there in
-            let w = slots_less way key.tx less more _ lives (slots_more way is given) one_more none in
-            omega (arith, ap length rows, n, w))
-            few_then)
+        -- the transaction has a live event still, or none
+        pub timed_then : (after : ByMoment) → table.AreApart slots.rows → table.AreRising slots.rows
+            → ((length (live_of key.tx (stored chains)) ≡ 0 → ⊥) → after.slots.rows ≡ slots.rows)
+            → (length (live_of key.tx (stored chains)) ≡ 0 → after.slots.rows ≡ without_row key.tx slots.rows)
+            → after.slots.capacity ≡ slots.capacity → after.index ≡ last → most_event_readings ≤ vec_capacity after.listed → AreByMoment chains.limits (stored chains) after
+        timed_then after apart risen kept gone cap i room =
+            let entries = ap (λ (j : TimedReadings). j.entries) i in let index_cap = ap (λ (j : TimedReadings). j.capacity) i ∙ again.capacity ∙ moved.capacity in
+            subst (λ es. AreByMoment chains.limits es after) is.now_are (⊎_elim
+            (λ (none : length (live_of key.tx will) ≡ 0).
+            let rows = gone (sym (ap (λ es. length (live_of key.tx es)) is.now_are) ∙ none) in let lacks = ap (row_of key.tx) rows ∙ row_gone key.tx slots.rows in
+            by_moment_then is.timed given apart turned after (λ u other. ap (row_of u) rows ∙ row_else key.tx u slots.rows other)
+            (ap is_some lacks ∙ sym (ap (λ n. not (n == 0)) none)) (λ row there. let e : None ≡ Some row = sym lacks ∙ there in cc) cap entries index_cap room
+            (omega (arith, ap length rows, slots_will, ap (λ n. cond {A = ℕ} (n == 0) 1 0) none, rows_less key.tx slots.rows given.row risen given.there)) few_then)
+            (λ (some : length (live_of key.tx will) ≡ 0 → ⊥).
+            let rows = kept (λ none. some (ap (λ es. length (live_of key.tx es)) is.now_are ∙ none)) in let still = ne_eqb (length (live_of key.tx will)) 0 some in
+            by_moment_then is.timed given apart turned after (λ u other. ap (row_of u) rows) (ap is_some (ap (row_of key.tx) rows ∙ given.there) ∙ sym (ap not still))
+            (λ row there. let e : Some given.row ≡ Some row = sym given.there ∙ sym (ap (row_of key.tx) rows) ∙ there in cc) cap entries index_cap room
+            (omega (arith, ap length rows, slots_will, ap (λ b. cond {A = ℕ} b 1 0) still)) few_then)
+            (cases_eq (length (live_of key.tx will)) 0))

@@ -1,11 +1,11 @@
 -- Readings put into the gaps of others, run by run: what their pairs do to the periods, and to sums.
-use Rattle.std.{proofs.Common.{◌≡◌, ℕ, zero, suc, ◌+◌, ◌-◌, ◌*◌, ◌<◌, ◌≤◌, Bool, true, false, cond, nat_lt, List, [], ◌∷◌, ◌++◌, Option, None, Some, length, slice_get, refl, sym, ap, subst, ◌∙◌, ⊎_elim, arith, length-append}, specs.List.sum_by, proofs.lemmas.Bool.{cases_lt, lt-ltb, le-ltb}, proofs.lemmas.List.{map-append, length-map}, proofs.lemmas.List.Elements.filter-append, proofs.lemmas.List.Sums.sum_by-append}
+use Rattle.std.{proofs.Common.{◌≡◌, ℕ, zero, suc, ◌+◌, ◌-◌, ◌*◌, ◌≤◌, Bool, true, false, nat_lt, List, [], ◌∷◌, ◌++◌, Option, length, slice_get, refl, sym, ap, ◌∙◌, arith, length-append}, specs.List.{AllByRecursion, sum_by}, proofs.lemmas.Bool.Decides.nat_tests, proofs.lemmas.List.{map-append, length-map}, proofs.lemmas.List.Elements.filter-append, proofs.lemmas.List.Sums.sum_by-append}
 use Rattle.energy_flow.specs.Flow.{Energy}
-use Rattle.ledger_model.{specs.ByDirection.in_direction, specs.Periods.Periods, specs.Board.Flowed, specs.Deltas.{pairs_between, first_reading, last_reading}, specs.Energy.{Pair, energy_over, followed}, specs.declared.reading.Direction.Direction, specs.Event.MeterReading, specs.InTime.{put_in_time, runs, runs_behind}, specs.Ranges.{greatest_reading, most_readings}, proofs.Callers.{AreForeign, AreOwn, followed_cut, put-behind, put-front, runs_own, runs_foreign}}
-use Rattle.quarter_table.{specs.Table.Table, specs.Pairs.{rows_of, total}, proofs.Made.made_alike}
+use Rattle.ledger_model.{specs.Periods.Periods, specs.Board.Flowed, specs.Deltas.{pairs_between, first_reading, last_reading}, specs.Energy.{Pair, energy_over, followed}, specs.declared.reading.Direction.Direction, specs.Event.MeterReading, specs.InTime.{put_in_time, runs, runs_behind}, specs.Ranges.{greatest_reading, most_readings}, proofs.Callers.{AreForeign, AreOwn, followed_cut, put-behind, put-front, runs_own, runs_foreign}}
+use Rattle.quarter_table.{specs.Table.Table, specs.Pairs.{rows_of}, proofs.Made.made_alike}
 use Rattle.key_index.proofs.Orders.{above_parts, above_less}
 use Rattle.reading_index.specs.Timed.{Timed, first_of, in_front, last_of, AreAbove, AreRising, AreBelow}
-use Rattle.station_ledger.{specs.ByMoment.{bare, bare_one, beyond, fits, fitting, put_each}, specs.Runs.AreFew, specs.Quarters.{HasRoom, quartered}, proofs.MomentRanks.at, proofs.Rows.{long, each_toward, up_append, down_append, up_quartered, down_quartered}, proofs.Walks.{energy_over-append, quartered-append}}
+use Rattle.station_ledger.{specs.ByMoment.{bare, bare_one, beyond, fitting, put_each}, specs.Runs.AreFew, specs.Quarters.{HasRoom, quartered}, proofs.MomentRanks.at, proofs.Rows.{long, up_append, down_append, up_quartered, down_quartered}, proofs.Walks.{quartered-append}}
 
 -- The pairs of readings, with a run of some in a gap and without.
 pub with_run : (front run back : List Timed)
@@ -20,20 +20,12 @@ pub moved_in : (period : Periods) (d : Direction) (a x b : List Pair) (rest : Li
 moved_in period d a x b rest =
     let q = quartered period d in
     made_alike (q (a ++ (x ++ b)) ++ rest) (q x ++ (q (a ++ b) ++ rest)) (λ measure.
-    let one = sum_by-append measure (q (a ++ (x ++ b))) rest in
-    let two = ap (sum_by measure) (quartered-append period d a (x ++ b)) ∙ sum_by-append measure (q a) (q (x ++ b)) in
-    let three = ap (sum_by measure) (quartered-append period d x b) ∙ sum_by-append measure (q x) (q b) in
-    let four = sum_by-append measure (q x) (q (a ++ b) ++ rest) in
-    let five = sum_by-append measure (q (a ++ b)) rest in
-    let six = ap (sum_by measure) (quartered-append period d a b) ∙ sum_by-append measure (q a) (q b) in
-    omega (arith, one, two, three, four, five, six))
+    let parts = λ (ps qs : List Pair). ap (sum_by measure) (quartered-append period d ps qs) ∙ sum_by-append measure (q ps) (q qs) in
+    omega (arith, sum_by-append measure (q (a ++ (x ++ b))) rest, parts a (x ++ b), parts x b, sum_by-append measure (q x) (q (a ++ b) ++ rest), sum_by-append measure (q (a ++ b)) rest, parts a b))
 
--- Energies with three parts.
-pub three_up : (a x b : List Pair) → (energy_over (a ++ (x ++ b))).up ≡ (energy_over a).up + ((energy_over x).up + (energy_over b).up)
-three_up a x b = ap (λ (e : Energy). e.up) (energy_over-append a (x ++ b)) ∙ ap (λ (e : Energy). (energy_over a).up + e.up) (energy_over-append x b)
-
-pub three_down : (a x b : List Pair) → (energy_over (a ++ (x ++ b))).down ≡ (energy_over a).down + ((energy_over x).down + (energy_over b).down)
-three_down a x b = ap (λ (e : Energy). e.down) (energy_over-append a (x ++ b)) ∙ ap (λ (e : Energy). (energy_over a).down + e.down) (energy_over-append x b)
+-- Sums with three parts.
+pub three_sums : (f : Pair → ℕ) (a x b : List Pair) → sum_by f (a ++ (x ++ b)) ≡ sum_by f a + (sum_by f x + sum_by f b)
+three_sums f a x b = omega (arith, sum_by-append f a (x ++ b), sum_by-append f x b)
 
 pub followed_fewer : (r : MeterReading) (rs : List MeterReading) → length (followed (r ∷ rs)) ≡ length rs
 followed_fewer r [] = refl
@@ -42,12 +34,7 @@ followed_fewer r (s ∷ rs) = let rest = followed_fewer s rs in omega (arith, re
 -- A little more of it.
 pub few_more : (most more : ℕ) (d : Direction) (e f : Energy) (rest : List Flowed) → AreFew most d e rest
     → f.up ≤ e.up + greatest_reading * more → f.down ≤ e.down + greatest_reading * more → AreFew (most + more) d f rest
-few_more most more d e f rest few up down = record {
-  up = λ k. let r = (in_direction k (total rest)).up in
-      each_toward k d (λ at beside. (at e).up + r ≤ greatest_reading * most → (at f).up + r ≤ greatest_reading * (most + more)) (λ h. omega (arith, h, up)) (λ h. omega (arith, h)) (few.up k);
-  down = λ k. let r = (in_direction k (total rest)).down in
-      each_toward k d (λ at beside. (at e).down + r ≤ greatest_reading * most → (at f).down + r ≤ greatest_reading * (most + more)) (λ h. omega (arith, h, down)) (λ h. omega (arith, h)) (few.down k);
-}
+few_more most more d e f rest few up down = record { up = λ k. grind (arith, few.up k, up); down = λ k. grind (arith, few.down k, down) }
 
 -- There is room for pairs beside these.
 pub has_room : (period : Periods) (d : Direction) (ps : List Pair) (rest : List Flowed) (n most : ℕ) (t : Table)
@@ -67,13 +54,11 @@ has_room period d ps rest n most t rows room few_rows few small =
 
 -- Each of the second is above all of the first.
 abbrev pub AreOver : List Timed → List Timed → Type 0
-AreOver ts [] = Unit {0}
-AreOver ts (x ∷ xs) = AreBelow x.0 ts × AreOver ts xs
+AreOver ts xs = AllByRecursion (λ x. AreBelow x.0 ts) xs
 
 -- Each of the first is below all of the second.
 abbrev pub AreInFront : List Timed → List Timed → Type 0
-AreInFront [] us = Unit {0}
-AreInFront (x ∷ xs) us = AreAbove x.0 us × AreInFront xs us
+AreInFront xs us = AllByRecursion (λ x. AreAbove x.0 us) xs
 
 -- One that is behind all of a front.
 put-under : (x : Timed) (ts us : List Timed) → AreBelow x.0 ts → put_in_time at x (ts ++ us) ≡ ts ++ put_in_time at x us
@@ -88,10 +73,7 @@ put-over x (u ∷ us) h = put-front at x u us (let a = h.0 in omega (arith, a))
 -- One that is in front of all of a back.
 put-before : (x : Timed) (ts us : List Timed) → AreAbove x.0 us → put_in_time at x (ts ++ us) ≡ put_in_time at x ts ++ us
 put-before x [] us h = put-over x us h
-put-before x (t ∷ ts) us h = ⊎_elim
-    (λ (lt : t.0 < x.0). put-behind at x t (ts ++ us) lt ∙ ap (λ l. t ∷ l) (put-before x ts us h) ∙ sym (ap (λ l. l ++ us) (put-behind at x t ts lt)))
-    (λ (ge : x.0 ≤ t.0). put-front at x t (ts ++ us) ge ∙ sym (ap (λ l. l ++ us) (put-front at x t ts ge)))
-    (cases_lt t.0 x.0)
+put-before x (t ∷ ts) us h = grind (arith, nat_tests, put-before x ts us h)
 
 pub put_each-under : (xs ts us : List Timed) → AreOver ts xs → put_each xs (ts ++ us) ≡ ts ++ put_each xs us
 put_each-under [] ts us h = refl
@@ -105,7 +87,7 @@ pub put_each-append : (xs ys ts : List Timed) → put_each (xs ++ ys) ts ≡ put
 put_each-append [] ys ts = refl
 put_each-append (x ∷ xs) ys ts = put_each-append xs ys (put_in_time at x ts)
 
-over-one : (x : Timed) (xs : List Timed) → AreAbove x.0 xs → AreOver (x ∷ []) xs
+pub over-one : (x : Timed) (xs : List Timed) → AreAbove x.0 xs → AreOver (x ∷ []) xs
 over-one x [] h = tt
 over-one x (y ∷ ys) h = ((h.0, tt), over-one x ys h.1)
 
@@ -122,10 +104,7 @@ ranked-apart (t ∷ ts) us h = ((above_parts t.0 ts us h.0).1, ranked-apart ts u
 -- Those in front of a rank are below it, and those from it on are not.
 pub in_front-under : (k : ℕ) (ts : List Timed) → AreBelow k (in_front k ts)
 in_front-under k [] = tt
-in_front-under k (t ∷ ts) = ⊎_elim
-    (λ (lt : t.0 < k). subst (λ b. AreBelow k (cond b (t ∷ in_front k ts) (in_front k ts))) (sym (lt-ltb t.0 k lt)) (lt, in_front-under k ts))
-    (λ (ge : k ≤ t.0). subst (λ b. AreBelow k (cond b (t ∷ in_front k ts) (in_front k ts))) (sym (le-ltb t.0 k ge)) (in_front-under k ts))
-    (cases_lt t.0 k)
+in_front-under k (t ∷ ts) = grind (arith, nat_tests, in_front-under k ts)
 
 pub in_front-append : (k : ℕ) (ts us : List Timed) → in_front k (ts ++ us) ≡ in_front k ts ++ in_front k us
 in_front-append k ts us = filter-append (λ t. nat_lt t.0 k) ts us
@@ -133,21 +112,14 @@ in_front-append k ts us = filter-append (λ t. nat_lt t.0 k) ts us
 -- The first readings that fit, and those beyond.
 pub fitting-beyond : (a : Option Timed) (xs : List Timed) → fitting a xs ++ beyond a xs ≡ xs
 fitting-beyond a [] = refl
-fitting-beyond a (x ∷ xs) = elim (fits a x) as (λ b. cond b (x ∷ fitting a xs) [] ++ cond b (beyond a xs) (x ∷ xs) ≡ x ∷ xs) [ true ↦ ap (λ l. x ∷ l) (fitting-beyond a xs) | false ↦ refl ]
+fitting-beyond a (x ∷ xs) = grind (arith, fitting-beyond a xs)
 
 -- All that fit are in front of a row that begins there.
 pub fitting-front : (us xs : List Timed) → AreRising us → AreInFront (fitting (first_of us) xs) us
-fitting-front [] xs up = nothing (fitting None xs)
-  where
-    nothing : (ys : List Timed) → AreInFront ys []
-    nothing [] = tt
-    nothing (y ∷ ys) = (tt, nothing ys)
+fitting-front [] [] up = tt
+fitting-front [] (x ∷ xs) up = (tt, fitting-front [] xs up)
 fitting-front (u ∷ us) [] up = tt
-fitting-front (u ∷ us) (x ∷ xs) up = ⊎_elim
-    (λ (lt : x.0 < u.0). subst (λ b. AreInFront (cond b (x ∷ fitting (Some u) xs) []) (u ∷ us)) (sym (lt-ltb x.0 u.0 lt))
-    ((lt, above_less x.0 u.0 us (omega (arith, lt)) up.0), fitting-front (u ∷ us) xs up))
-    (λ (ge : u.0 ≤ x.0). subst (λ b. AreInFront (cond b (x ∷ fitting (Some u) xs) []) (u ∷ us)) (sym (le-ltb x.0 u.0 ge)) tt)
-    (cases_lt x.0 u.0)
+fitting-front (u ∷ us) (x ∷ xs) up = grind (arith, nat_tests, fitting-front (u ∷ us) xs up, above_less x.0 u.0 us)
 
 -- A run in the gap between a front and a back: the front's last reading and the back's first do not pass a test that
 -- the run does.
@@ -200,11 +172,9 @@ module _ (own : Timed → Bool) where
   -- there is one run more
   pub one_run_more : (front : List Timed) (x : Timed) (xs back : List Timed) → LastFails own front → AreOwn own (x ∷ xs)
       → FirstFails own back → runs own (front ++ ((x ∷ xs) ++ back)) ≡ runs own (front ++ back) + 1
-  one_run_more [] x xs back fails mine first = let one = runs_own own false x (xs ++ back) mine.0 in let rest = run_ends xs back mine.1 first in omega (arith, one, rest)
+  one_run_more [] x xs back fails mine first = omega (arith, runs_own own false x (xs ++ back) mine.0, run_ends xs back mine.1 first)
   one_run_more (y ∷ front) x xs back fails mine first =
-      let one : runs_behind false own ((x ∷ xs) ++ back) ≡ runs_behind false own back + 1 =
-      (let a = runs_own own false x (xs ++ back) mine.0 in let b = run_ends xs back mine.1 first in omega (arith, a, b)) in
-      front_runs false y front ((x ∷ xs) ++ back) back fails one
+      front_runs false y front ((x ∷ xs) ++ back) back fails (omega (arith, runs_own own false x (xs ++ back) mine.0, run_ends xs back mine.1 first))
 
 -- The last reading, without its rank.
 pub last_bare : (ts : List Timed) → bare_one (last_of ts) ≡ last_reading (bare ts)

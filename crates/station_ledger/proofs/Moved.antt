@@ -1,7 +1,7 @@
 -- One more live event, or less, moves what its transaction counts for.
-use Rattle.std.{proofs.Common.{◌≡◌, ◌==◌, ℕ, zero, suc, ◌+◌, ◌<◌, ◌≤◌, Bool, true, false, not, cond, ◌&&◌, ◌||◌, List, [], ◌∷◌, Option, Some, None, length, map, refl, sym, ap, ◌∙◌, arith, length-append, slice_get, unwrap_or}, specs.List.{filter_map, flat_map}, specs.Str.bytes_eq, proofs.lemmas.Bool.ne_eqb, proofs.lemmas.Bool.Decides.Decides-eqb}
+use Rattle.std.{proofs.lemmas.Bool.Decides.nat_tests, proofs.Common.{◌≡◌, ◌==◌, ℕ, ◌<◌, ◌≤◌, true, false, not, cond, ◌&&◌, List, [], ◌∷◌, Option, Some, None, length, map, refl, sym, ap, ◌∙◌, arith, length-append, slice_get, unwrap_or}, specs.List.{filter_map, flat_map}, proofs.lemmas.Bool.ne_eqb}
 use Rattle.energy_flow.specs.Flow.{Energy, no_energy, plus}
-use Rattle.ledger_model.{specs.declared.order.Order.Order, specs.declared.reading.Direction.Direction, specs.declared.reading.Direction.TheVariants.{Import, Export}, specs.ByDirection.{in_direction, in_each, no_flows}, specs.declared.by_direction.ByDirection.ByDirection, proofs.Directions.each_is, specs.Event.{MeterReading, toward}, specs.Complete.{is_complete, starts_and_ends}, specs.Content.{Entry, live, live_of, transactions_of, has_transaction}, specs.Deltas.{IsOneMore, flow_if, own_events}, specs.Energy.{energy_of_by, energy_over, flows_of_by, followed}, specs.Evse.{evse_of, energy_at_by, first_or_zero}, specs.Gaps.{numbers_of, missing}, specs.InTime.in_order, proofs.Callers.{events_more, transactions_more, complete_more, missing_more, energy_at_more, evse_counts, live_with, live_without, live_else, order-nil}}
+use Rattle.ledger_model.{specs.declared.order.Order.Order, specs.declared.reading.Direction.Direction, specs.ByDirection.{in_direction, in_each}, specs.declared.by_direction.ByDirection.ByDirection, proofs.Directions.each_is, specs.Event.{MeterReading, toward}, specs.Complete.{is_complete, starts_and_ends}, specs.Content.{Entry, live, live_of, has_transaction}, specs.Deltas.{IsOneMore, flow_if, own_events}, specs.Energy.{energy_of_by, energy_over, flows_of_by, followed}, specs.Evse.{evse_of, energy_at_by, first_or_zero}, specs.Gaps.{numbers_of, missing}, specs.InTime.in_order, proofs.Callers.{events_more, transactions_more, complete_more, missing_more, energy_at_more, evse_counts, live_with, live_without, live_else, order-nil}}
 use Rattle.station_ledger.{specs.declared.standing.Standing.Standing, specs.Standing.{standing_with, kept_with, kept_of}, specs.Moved.{live_in, one_in, complete_in, missing_in, flows_in, one_at, flows_at, IsMoved}}
 
 -- a list without elements
@@ -12,58 +12,23 @@ none_long (x ∷ xs) h = absurd (omega (arith, h))
 -- whether a transaction has an event, by how many it has
 pub has_own : (tx : List ℕ) (xs : List Entry) → has_transaction tx xs ≡ not (length (own_events tx xs) == 0)
 has_own tx [] = refl
-has_own tx (e ∷ xs) = elim (bytes_eq tx e.0.tx) as (λ b. (b || has_transaction tx xs) ≡ not (length (cond b (e ∷ own_events tx xs) (own_events tx xs)) == 0)) [
-  | true ↦ sym (ap not (ne_eqb (length (e ∷ own_events tx xs)) 0 (λ h. absurd (omega (arith, h)))))
-  | false ↦ has_own tx xs
-]
+has_own tx (e ∷ xs) = grind (arith, nat_tests, has_own tx xs)
 
 -- a transaction without a live event
 pub none_live : (tx : List ℕ) (es : List Entry) → has_transaction tx (live es) ≡ false → live_of tx es ≡ []
-none_live tx es none = none_long (live_of tx es) (zero_if (length (live_of tx es)) (sym none ∙ has_own tx (live es))) where
-  zero_if : (n : ℕ) → false ≡ not (n == 0) → n ≡ 0
-  zero_if n h = elim (n == 0) as (λ b. (n == 0) ≡ b → false ≡ not b → n ≡ 0) [
-    | true ↦ λ e _. (Decides-eqb n 0).0 e
-    | false ↦ λ _ f. cc
-  ] refl h
+none_live tx es none = grind (arith, nat_tests, none_long (live_of tx es), has_own tx (live es), none)
 
 -- what is kept, where there is no live event and where there is
 kept_cases : (P : Option Standing → Type 0) (energy : ByDirection Energy) (tx : List ℕ) (es : List Entry) → (live_of tx es ≡ [] → P None)
     → (0 < length (live_of tx es) → P (Some (standing_with energy tx es))) → P (kept_with energy tx es)
-kept_cases P energy tx es none some = elim (length (live_of tx es) == 0) as (λ b. (length (live_of tx es) == 0) ≡ b → P (cond b None (Some (standing_with energy tx es)))) [
-  | true ↦ λ h. none (none_long (live_of tx es) ((Decides-eqb (length (live_of tx es)) 0).0 h))
-  | false ↦ λ h. some (positive (length (live_of tx es)) h)
-] refl where
-  positive : (n : ℕ) → (n == 0) ≡ false → 0 < n
-  positive zero h = cc
-  positive (suc n) h = omega arith
-
-none_if : (b : Bool) → flow_if b no_energy ≡ no_energy
-none_if true = refl
-none_if false = refl
-
-at_if : (d : Direction) (b : Bool) (e : ByDirection Energy) → in_direction d (cond b e no_flows) ≡ flow_if b (in_direction d e)
-at_if d true e = refl
-at_if Import false e = refl
-at_if Export false e = refl
-
-no_flow : (d : Direction) → in_direction d no_flows ≡ no_energy
-no_flow Import = refl
-no_flow Export = refl
-
--- one transaction more, where it is new
-counted : (b : Bool) (n m : ℕ) → m ≡ cond b n (n + 1) → m + cond b 1 0 ≡ n + 1
-counted true n m h = omega (arith, h)
-counted false n m h = omega (arith, h)
+kept_cases P energy tx es none some = grind (arith, nat_tests, none_long (live_of tx es), none, some)
 
 module _ (order : Order) where
   pub live_kept : (tx : List ℕ) (es : List Entry) → live_in (kept_of order tx es) ≡ length (live_of tx es)
   live_kept tx es = kept_cases (λ o. live_in o ≡ length (live_of tx es)) (flows_of_by order tx es) tx es (λ none. sym (ap length none)) (λ _. refl)
 
   one_kept : (tx : List ℕ) (es : List Entry) → one_in (kept_of order tx es) ≡ cond (has_transaction tx (live es)) 1 0
-  one_kept tx es = ones (length (live_of tx es) == 0) ∙ ap (λ b. cond {A = ℕ} b 1 0) (sym (has_own tx (live es))) where
-    ones : (b : Bool) → one_in (cond b None (Some (standing_with (flows_of_by order tx es) tx es))) ≡ cond (not b) 1 0
-    ones true = refl
-    ones false = refl
+  one_kept tx es = grind (arith, nat_tests, has_own tx (live es))
 
   complete_kept : (tx : List ℕ) (es : List Entry) → complete_in (kept_of order tx es) ≡ cond (is_complete tx es) 1 0
   complete_kept tx es = kept_cases (λ o. complete_in o ≡ cond (is_complete tx es) 1 0) (flows_of_by order tx es) tx es
@@ -74,10 +39,7 @@ module _ (order : Order) where
       (λ none. sym (ap (λ (xs : List Entry). missing (map (λ (e : Entry). e.0.seq) xs)) none)) (λ _. refl)
 
   at_kept : (n : ℕ) (tx : List ℕ) (es : List Entry) → one_at n (kept_of order tx es) ≡ cond (has_transaction tx (live es)) (cond (evse_of tx es == n) 1 0) 0
-  at_kept n tx es = ones (length (live_of tx es) == 0) ∙ ap (λ b. cond {A = ℕ} b (cond (evse_of tx es == n) 1 0) 0) (sym (has_own tx (live es))) where
-    ones : (b : Bool) → one_at n (cond b None (Some (standing_with (flows_of_by order tx es) tx es))) ≡ cond (not b) (cond (evse_of tx es == n) 1 0) 0
-    ones true = refl
-    ones false = refl
+  at_kept n tx es = grind (arith, nat_tests, has_own tx (live es))
 
   energy_none : (d : Direction) (tx : List ℕ) (es : List Entry) → live_of tx es ≡ [] → energy_of_by order d tx es ≡ no_energy
   energy_none d tx es none =
@@ -89,8 +51,7 @@ module _ (order : Order) where
 
   pub flow_kept : (d : Direction) (n : ℕ) (tx : List ℕ) (es : List Entry) → in_direction d (flows_at n (kept_of order tx es)) ≡ flow_if (evse_of tx es == n) (energy_of_by order d tx es)
   flow_kept d n tx es = kept_cases (λ o. in_direction d (flows_at n o) ≡ flow_if (evse_of tx es == n) (energy_of_by order d tx es)) (flows_of_by order tx es) tx es
-      (λ none. no_flow d ∙ sym (ap (flow_if (evse_of tx es == n)) (energy_none d tx es none) ∙ none_if (evse_of tx es == n)))
-      (λ _. at_if d (evse_of tx es == n) (flows_of_by order tx es) ∙ ap (flow_if (evse_of tx es == n)) (toward_is d tx es))
+      (λ none. grind (arith, energy_none d tx es none)) (λ _. grind (arith, toward_is d tx es))
 
   -- one more live event
   pub moved_more : (es more front : List Entry) (e : Entry) (back : List Entry) → IsOneMore es more front e back → IsMoved order e.0.tx es more
@@ -102,14 +63,7 @@ module _ (order : Order) where
       record {
         others = λ u apart. live_else es more front e back u one apart;
         events = omega (arith, events_more es more front e back one, live_kept tx es, live_kept tx more, own, with_it);
-        transactions =
-            omega (
-              arith,
-              counted (has_transaction tx (live es)) (length (transactions_of (live es))) (length (transactions_of (live more))) (transactions_more es more front e back one),
-              one_kept tx es,
-              one_kept tx more,
-              ap (λ b. cond {A = ℕ} b 1 0) there,
-            );
+        transactions = grind (arith, transactions_more es more front e back one, one_kept tx es, one_kept tx more, there);
         complete = omega (arith, complete_more es more front e back one, complete_kept tx es, complete_kept tx more);
         missing_are = omega (arith, missing_more es more front e back one, missing_kept tx es, missing_kept tx more);
         at_evse = λ n. omega (arith, evse_counts n es more front e back one, at_kept n tx es, at_kept n tx more, ap (λ b. cond {A = ℕ} b (cond (evse_of tx more == n) 1 0) 0) there);
@@ -132,7 +86,7 @@ module _ (order : Order) where
   -- the energies of what is kept
   pub flow_in_kept : (d : Direction) (tx : List ℕ) (es : List Entry) → in_direction d (flows_in (kept_of order tx es)) ≡ energy_of_by order d tx es
   flow_in_kept d tx es = kept_cases (λ o. in_direction d (flows_in o) ≡ energy_of_by order d tx es) (flows_of_by order tx es) tx es
-      (λ none. no_flow d ∙ sym (energy_none d tx es none)) (λ _. toward_is d tx es)
+      (λ none. grind (arith, energy_none d tx es none)) (λ _. toward_is d tx es)
 
 -- what is kept depends only on the transaction's live events
 kept_over : Order → List ℕ → List Entry → Option Standing
@@ -154,26 +108,14 @@ pub one_in_le : (o : Option Standing) → one_in o ≤ 1
 one_in_le None = omega arith
 one_in_le (Some s) = omega arith
 
-one_if : (b : Bool) → cond b 1 0 ≤ 1
-one_if true = omega arith
-one_if false = omega arith
-
 pub complete_in_le : (o : Option Standing) → complete_in o ≤ 1
 complete_in_le None = omega arith
-complete_in_le (Some s) = one_if s.complete
+complete_in_le (Some s) = grind arith
 
 pub one_at_le : (n : ℕ) (o : Option Standing) → one_at n o ≤ 1
 one_at_le n None = omega arith
-one_at_le n (Some s) = one_if (s.evse == n)
-
--- at an EVSE there is no more than all
-flow_if_le : (d : Direction) (b : Bool) (e : ByDirection Energy) → ((in_direction d (cond b e no_flows)).up ≤ (in_direction d e).up)
-    × ((in_direction d (cond b e no_flows)).down ≤ (in_direction d e).down)
-flow_if_le d true e = (omega arith, omega arith)
-flow_if_le Import false e = (omega arith, omega arith)
-flow_if_le Export false e = (omega arith, omega arith)
+one_at_le n (Some s) = grind arith
 
 pub flow_at_le : (d : Direction) (n : ℕ) (o : Option Standing) → ((in_direction d (flows_at n o)).up ≤ (in_direction d (flows_in o)).up)
     × ((in_direction d (flows_at n o)).down ≤ (in_direction d (flows_in o)).down)
-flow_at_le d n None = (omega arith, omega arith)
-flow_at_le d n (Some s) = flow_if_le d (s.evse == n) s.energy
+flow_at_le d n o = grind arith

@@ -1,5 +1,5 @@
 -- Numbers of entries that are in range: of a transaction, and of its EVSE.
-use Rattle.std.{proofs.Common.{ℕ, ◌<◌, ◌≤◌, Bool, true, false, not, cond, List, [], ◌∷◌, Option, Some, None, map, arith}, specs.List.{cons_option, filter, filter_map}, specs.Str.bytes_eq, specs.Prelude.IfSome}
+use Rattle.std.{proofs.Common.{ℕ, ◌<◌, ◌≤◌, Bool, not, List, [], ◌∷◌, Option, map, arith}, specs.List.{cons_option, filter, filter_map}, specs.Str.bytes_eq, specs.Prelude.IfSome}
 use Rattle.ledger_model.{specs.Board.last_or_zero, specs.Content.{Entry, live, live_of}, specs.Evse.{evse_of, first_or_zero}, specs.Gaps.numbers_of, specs.Ranges.{greatest_evse, sequence_end}, proofs.Callers.AreEntries}
 use Rattle.station_ledger.specs.Numbered.{AreNumbered}
 
@@ -10,9 +10,7 @@ numbered (e ∷ es) h = (record { sequence = h.0.key.number; evse = h.0.event.ev
 
 AreNumbered-filter : (p : Entry → Bool) (es : List Entry) → AreNumbered es → AreNumbered (filter p es)
 AreNumbered-filter p [] h = tt
-AreNumbered-filter p (e ∷ es) h =
-    let rest = AreNumbered-filter p es h.1 in
-    elim (p e) as (λ b. AreNumbered (cond b (e ∷ filter p es) (filter p es))) [ true ↦ (h.0, rest) | false ↦ rest ]
+AreNumbered-filter p (e ∷ es) h = grind (arith, AreNumbered-filter p es h.1, h.0)
 
 pub live_numbered : (tx : List ℕ) (es : List Entry) → AreNumbered es → AreNumbered (live_of tx es)
 live_numbered tx es h = AreNumbered-filter (λ e. bytes_eq tx e.0.tx) (live es) (AreNumbered-filter (λ e. not e.1.voided) es h)
@@ -27,8 +25,7 @@ highest_few (e ∷ []) h = h.0.sequence
 highest_few (e ∷ f ∷ es) h = highest_few (f ∷ es) h.1
 
 named_first : (o : Option ℕ) (ns : List ℕ) → IfSome o (λ number. number ≤ greatest_evse) → first_or_zero ns ≤ greatest_evse → first_or_zero (cons_option o ns) ≤ greatest_evse
-named_first None ns le rest = rest
-named_first (Some n) ns le rest = le
+named_first o ns le rest = grind (arith, le, rest)
 
 named_few : (es : List Entry) → AreNumbered es → first_or_zero (filter_map (λ (e : Entry). e.1.event.evse) es) ≤ greatest_evse
 named_few [] h = omega arith

@@ -1,5 +1,5 @@
 -- What is kept of a transaction, when one more live event comes.
-use Rattle.std.{proofs.Common.{◌≡◌, ◌==◌, ℕ, zero, suc, ◌+◌, ◌<◌, ◌≤◌, Bool, true, false, cond, List, [], ◌∷◌, ◌++◌, Option, None, Some, IfSome, length, map, slice_get, unwrap_or, refl, sym, ap, ◌∙◌, subst, arith, length-append}, specs.List.{filter_map, cons_option}, proofs.lemmas.List.{length-map, map-append}}
+use Rattle.std.{proofs.lemmas.Bool.Decides.nat_tests, proofs.Common.{◌≡◌, ◌==◌, ℕ, ◌+◌, ◌<◌, ◌≤◌, Bool, true, false, cond, List, [], ◌∷◌, ◌++◌, Option, None, Some, IfSome, length, map, slice_get, unwrap_or, refl, sym, ap, ◌∙◌, subst, arith, length-append}, specs.List.{filter_map}, proofs.lemmas.List.{length-map, map-append}}
 use Rattle.energy_flow.specs.Flow.{Energy}
 use Rattle.ledger_model.{specs.declared.by_direction.ByDirection.ByDirection, specs.Board.last_or_zero, specs.BoardLaws.AreRising, specs.Content.{Entry, Stored, live_of}, specs.Deltas.{own_events, before_key, behind_key}, specs.Event.EventContent, specs.Evse.first_or_zero, specs.Gaps.{numbers_of, missing}, specs.Key.KeyName, proofs.Callers.{live_with, live_without}, proofs.GapLemmas.missing-fills}
 use Rattle.event_chain.{specs.Chains.{Chained, stored}, specs.declared.around.Sides.Sides}
@@ -29,10 +29,8 @@ back_rises (n ∷ k ∷ ns) m ms up = back_rises (k ∷ ns) m ms up.1
 
 -- Rising numbers without one of them rise.
 others_rise : (ns : List ℕ) (n : ℕ) (ms : List ℕ) → AreRising (ns ++ n ∷ ms) → AreRising (ns ++ ms)
-others_rise [] n [] up = tt
-others_rise [] n (m ∷ ms) up = up.1
-others_rise (k ∷ []) n [] up = tt
-others_rise (k ∷ []) n (m ∷ ms) up = (omega (arith, up.0, up.1.0), up.1.1)
+others_rise [] n ms up = grind (arith, up)
+others_rise (k ∷ []) n ms up = grind (arith, up)
 others_rise (k ∷ j ∷ ns) n ms up = (up.0, others_rise (j ∷ ns) n ms up.1)
 
 -- What is missing, by a number behind the first: it was missing, or it comes last.
@@ -59,25 +57,22 @@ filled (k ∷ front) (m ∷ back) n f up first lt =
 -- A number behind the first of some leaves it the first.
 keeps_first : (front back : List ℕ) (n f : ℕ) → AreRising (front ++ n ∷ back) → f ≡ unwrap_or (slice_get (front ++ back) 0) 0
     → 0 < length (front ++ back) → f < n → slice_get (front ++ n ∷ back) 0 ≡ Some f
-keeps_first [] [] n f up is some lt = absurd (omega (arith, some))
-keeps_first [] (m ∷ back) n f up is some lt = absurd (omega (arith, up.0, is, lt))
+keeps_first [] back n f up is some lt = grind (arith, up, is, some)
 keeps_first (k ∷ front) back n f up is some lt = ap Some (sym is)
 
 -- An event that names no EVSE is passed over.
 passed : (front : List Entry) (e : Entry) (back : List Entry) → e.1.event.evse ≡ None
     → filter_map (λ (x : Entry). x.1.event.evse) (front ++ e ∷ back) ≡ filter_map (λ (x : Entry). x.1.event.evse) (front ++ back)
-passed [] e back none = ap (λ (o : Option ℕ). cons_option o (filter_map (λ (x : Entry). x.1.event.evse) back)) none
-passed (f ∷ front) e back none = ap (cons_option f.1.event.evse) (passed front e back none)
+passed [] e back none = grind (arith, none)
+passed (f ∷ front) e back none = grind (arith, passed front e back none)
 
 -- What is kept, where something is.
 kept_is : (energy : ByDirection Energy) (tx : List ℕ) (es : List Entry) (was : Standing) → Some was ≡ kept_with energy tx es → was ≡ standing_with energy tx es
-kept_is energy tx es was h = elim (length (live_of tx es) == 0) as (λ b. Some was ≡ cond b None (Some (standing_with energy tx es))
-    → was ≡ standing_with energy tx es) [ true ↦ λ x. cc | false ↦ λ x. cc ] h
+kept_is energy tx es was h = grind (arith, h)
 
 -- Only a transaction with a live event has a standing.
 some_kept : (n : ℕ) (s was : Standing) → Some was ≡ cond (n == 0) None (Some s) → 0 < n
-some_kept zero s was h = cc
-some_kept (suc n) s was h = omega arith
+some_kept n s was h = grind (arith, nat_tests, h)
 
 -- The standing of a transaction, compared with its events after one more has come that names no EVSE.
 one_less : (es : List Entry) (chains : Chained) (key : KeyName) (place : ByDirection Sides) (come : IsTurning Coming es chains key place)

@@ -1,6 +1,6 @@
 -- Rows of pairs that are small: what may be added to them, and taken out.
 use Rattle.std.{proofs.Common.{◌≡◌, ℕ, ◌+◌, ◌*◌, ◌<◌, ◌≤◌, List, [], ◌∷◌, ◌++◌, length, sym, ap, subst, ◌∙◌, arith, length-append}, proofs.lemmas.List.length-map, proofs.lemmas.List.Sums.sum_by-append}
-use Rattle.energy_flow.specs.Flow.{Energy, no_energy, CanPlus}
+use Rattle.energy_flow.specs.Flow.{Energy, CanPlus}
 use Rattle.ledger_model.{specs.Periods.Periods, specs.Board.Flowed, specs.ByDirection.{in_direction, flows_toward, CanPlusFlows, CanMinusFlows}, specs.declared.by_direction.ByDirection.ByDirection, specs.Energy.{Pair, difference, energy_over, quarter_of}, proofs.Callers.sum_by-map, proofs.SumLemmas.sum_by-none, specs.declared.reading.Direction.Direction, specs.declared.reading.Direction.TheVariants.{Import, Export}, specs.Ranges.{greatest_reading, most_readings}}
 use Rattle.quarter_table.{specs.Table.Table, specs.Rows.row_at, specs.Pairs.{row_of, rows_of, rows_with, rows_without, total}, proofs.Held.{few_rows, few_pairs, row_up_le, row_down_le, pair_counted, pair_held, last_pair}, proofs.Made.made_row, proofs.Several.{made_with, made_without}}
 use Rattle.station_ledger.{specs.declared.pairs.Way.TheVariants.{Coming, Going}, specs.Quarters.{IsDifference, AreRows, HasRoom, IsSumOf, IsTableMoved, quartered}}
@@ -9,21 +9,6 @@ use Rattle.station_ledger.{specs.declared.pairs.Way.TheVariants.{Coming, Going},
 abbrev pub other : Direction → Direction
 other Import = Export
 other Export = Import
-
--- What holds of an energy of a direction in that direction, and not in the other, holds in each.
-pub each_toward : (k d : Direction) (P : (Energy → Energy) → (Energy → Energy) → Type 0) → P (λ e. e) (λ e. no_energy) → P (λ e. no_energy) (λ e. e)
-    → P (λ e. in_direction k (flows_toward d e)) (λ e. in_direction k (flows_toward (other d) e))
-each_toward Import Import P own apart = own
-each_toward Import Export P own apart = apart
-each_toward Export Import P own apart = apart
-each_toward Export Export P own apart = own
-
--- an energy of a direction is at most itself in each
-up_toward : (k d : Direction) (e : Energy) → (in_direction k (flows_toward d e)).up ≤ e.up
-up_toward k d e = each_toward k d (λ at beside. (at e).up ≤ e.up) (omega arith) (omega arith)
-
-down_toward : (k d : Direction) (e : Energy) → (in_direction k (flows_toward d e)).down ≤ e.down
-down_toward k d e = each_toward k d (λ at beside. (at e).down ≤ e.down) (omega arith) (omega arith)
 
 -- pairs behind others add up with them
 pub up_append : (d : Direction) (a b : List Flowed) → (in_direction d (total (a ++ b))).up ≡ (in_direction d (total a)).up + (in_direction d (total b)).up
@@ -62,7 +47,7 @@ down_quartered k period d ps = ap (λ (e : ByDirection Energy). (in_direction k 
 pub long : (period : Periods) (d : Direction) (ps : List Pair) → length (quartered period d ps) ≡ length ps
 long period d ps = length-map {B = Flowed} ps (λ p. (quarter_of period p, flows_toward d (difference p)))
 
-module _ (t : Table) (more : ℕ) (has : HasRoom more t) where
+module _ {t : Table} {more : ℕ} (has : HasRoom more t) where
   pub room_for_row : 0 < more → length t.rows < t.capacity
   room_for_row some = let n = ap length has.1.rows in omega (arith, n, few_rows has.0, has.1.room)
 
@@ -78,21 +63,25 @@ module _ (t : Table) (more : ℕ) (has : HasRoom more t) where
   pub room_for_flow : (q : ℕ) (d : Direction) (flow : Energy) → IsDifference flow → CanPlusFlows (row_at q t.rows).energy (flows_toward d flow)
   room_for_flow q d flow small =
       let fits : (k : Direction) → CanPlus (in_direction k (row_of q has.0).energy) (in_direction k (flows_toward d flow)) = λ k. record {
-        up = omega (arith, row_up_le k q has.0, has.1.up k, up_toward k d flow, small.up);
-        down = omega (arith, row_down_le k q has.0, has.1.down k, down_toward k d flow, small.down);
+        up = grind (arith, row_up_le k q has.0, has.1.up k, small.up);
+        down = grind (arith, row_down_le k q has.0, has.1.down k, small.down);
       } in
       subst (λ r. CanPlusFlows r.energy (flows_toward d flow)) (sym (row_is q)) (record { import = fits Import; export = fits Export })
 
--- what is there may be taken out
-module _ (q : ℕ) (flow : ByDirection Energy) (others : List Flowed) (t : Table) (is : t.rows ≡ rows_of ((q, flow) ∷ others)) where
+-- a table with a pair of this period and this flow: it may be taken out
+pub record HasPair (q : ℕ) (flow : ByDirection Energy) (t : Table) : Type 0 where
+  pub others : List Flowed
+  pub is : t.rows ≡ rows_of ((q, flow) ∷ others)
+
+module _ {q : ℕ} {flow : ByDirection Energy} {t : Table} (h : HasPair q flow t) where
   pub there : 0 < (row_at q t.rows).pairs
-  there = subst (λ rows. 0 < (row_at q rows).pairs) (sym is) (pair_counted [] q flow others)
+  there = subst (λ rows. 0 < (row_at q rows).pairs) (sym h.is) (pair_counted [] q flow h.others)
 
   pub held : CanMinusFlows (row_at q t.rows).energy flow
-  held = subst (λ rows. CanMinusFlows (row_at q rows).energy flow) (sym is) (pair_held [] q flow others)
+  held = subst (λ rows. CanMinusFlows (row_at q rows).energy flow) (sym h.is) (pair_held [] q flow h.others)
 
   pub last : (row_at q t.rows).pairs ≡ 1 → (row_at q t.rows).energy ≡ flow
-  last = subst (λ rows. (row_at q rows).pairs ≡ 1 → (row_at q rows).energy ≡ flow) (sym is) (last_pair [] q flow others)
+  last = subst (λ rows. (row_at q rows).pairs ≡ 1 → (row_at q rows).energy ≡ flow) (sym h.is) (last_pair [] q flow h.others)
 
 -- the rows with several pairs more
 pub rows_more : (period : Periods) (d : Direction) {ps : List Pair} {e : Energy} {t new : Table} (others : List Flowed) (more less : ℕ) → AreRows others more t → length ps + less ≡ more
@@ -105,8 +94,8 @@ rows_more period d {ps = ps} {t = t} {new = new} others more less was n sum put 
     record {
       rows = put.rows ∙ ap (rows_with mine) was.rows ∙ made_with mine others;
       room = omega (arith, was.room, length-append mine others, put.capacity, n, long period d ps);
-      up = λ k. omega (arith, was.up k, up_append k mine others, up_quartered k period d ps, up_toward k d all, up, n);
-      down = λ k. omega (arith, was.down k, down_append k mine others, down_quartered k period d ps, down_toward k d all, down, n);
+      up = λ k. grind (arith, was.up k, up_append k mine others, up_quartered k period d ps, up, n);
+      down = λ k. grind (arith, was.down k, down_append k mine others, down_quartered k period d ps, down, n);
       few = omega (arith, was.few, put.capacity);
     }
 

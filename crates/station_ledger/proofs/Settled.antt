@@ -1,11 +1,11 @@
 -- All sums after the pairs of one event came or went.
-use Rattle.std.{proofs.Common.{◌≡◌, ◌≤◌, ℕ, List, Option, None, Some, IfSome, sym, ap, subst, ◌∙◌, arith}, specs.FinMap.find}
+use Rattle.std.{proofs.Common.{◌≡◌, ℕ, List, Option, None, Some, IfSome, sym, ap, subst, ◌∙◌, arith}, specs.FinMap.find}
 use Rattle.energy_flow.specs.Flow.{Energy, plus}
 use Rattle.ledger_model.{specs.Periods.Periods, specs.ByDirection.{in_direction, in_each, plus_flows, minus_flows}, proofs.Directions.each_is, specs.declared.by_direction.ByDirection.ByDirection, specs.declared.order.Order.TheVariants.Sequence, specs.declared.reading.Direction.Direction, specs.declared.reading.Direction.TheVariants.{Import, Export}, specs.Content.Entry, specs.Energy.{Pair, energy_by, energy_of_by, flows_of_by}, specs.Key.KeyName, specs.Limits.Bounds}
 use Rattle.event_chain.{specs.Chains.{Chained, stored}, specs.declared.around.Sides.Sides}
 use Rattle.quarter_table.specs.Table.{Table}
 use Rattle.transaction_map.specs.Map.{Mapped, id_cmp}
-use Rattle.station_ledger.{specs.declared.pairs.Way.Way, specs.declared.pairs.Way.TheVariants.{Coming, Going}, specs.declared.standing.Standing.Standing, specs.declared.sums.Sums.Sums, specs.ByMoment.AreByMoment, specs.Moved.{CanExchange, IsExchanged, IsMoved, flows_in}, specs.Quarters.{HasRoom, HoldsBoth, IsSumOf, IsTableMoved, both_length, both_quartered}, specs.Standing.{kept_of, kept_with}, specs.Sums.{AreAllowed, AreCounts, AreEvseSums, ArePairsMoved, AreQuarterRows, AreStanding, AreSummed, AreTurning, CanReplace, IsReplaced, order_in, order_of}, proofs.Bounded.{own_up_le, own_down_le}, proofs.Changes.{IsChange, turned_moved}, proofs.Stands.{own_flow, was_kept, place, stands, room_at, counts_at, sums_stand, have_room, do_count, counts_stand}, proofs.Trades.{station_exchanged, own_exchanged, may_exchange, is_left, holds, room, filled}}
+use Rattle.station_ledger.{specs.declared.pairs.Way.Way, specs.declared.pairs.Way.TheVariants.{Coming, Going}, specs.declared.standing.Standing.Standing, specs.declared.sums.Sums.Sums, specs.ByMoment.AreByMoment, specs.Moved.{CanExchange, IsExchanged, IsMoved, flows_in}, specs.Quarters.{HasRoom, HoldsBoth, IsSumOf, IsTableMoved, both_length, both_quartered}, specs.Standing.{kept_of, kept_with}, specs.Sums.{AreAllowed, AreCounts, AreEvseSums, ArePairsMoved, AreQuarterRows, AreStanding, AreSummed, AreTurning, CanReplace, IsReplaced, order_in, order_of}, proofs.Bounded.{own_within, IsWithin}, proofs.Changes.{IsChange, turned_moved}, proofs.Stands.{own_flow, was_kept, place, stands, room_at, counts_at, sums_stand, have_room, do_count, counts_stand}, proofs.Trades.{station_exchanged, own_exchanged, exchanged_once, holds, room, filled}}
 
 -- what follows from what holds of a value, if there is one
 pub if_some : {X : Type 0} {P Q : X → Type 0} (o : Option X) → ((x : X) → P x → Q x) → IfSome o P → IfSome o Q
@@ -65,28 +65,26 @@ module _ {limits : Bounds} {tx : List ℕ} {es new : List Entry} {sums mid : Sum
 
   -- what the pairs move of energies of which no more than the station's are in a direction
   exchange : {energies : ByDirection Energy} (was now : Direction → Energy) → ((d : Direction) → in_direction d energies ≡ was d)
-      → ((d : Direction) → (was d).up ≤ (energy_by (order_in sums) d es).up) → ((d : Direction) → (was d).down ≤ (energy_by (order_in sums) d es).down)
+      → ((d : Direction) → IsWithin (was d) (energy_by (order_in sums) d es))
       → ((d : Direction) → plus (now d) (in_direction d less) ≡ plus (was d) (in_direction d more)) → CanExchange energies less more × (minus_flows (plus_flows energies more) less ≡ in_each now)
-  exchange was now is up down moved =
-      let may = λ (d : Direction). may_exchange (order_in sums) d limits es x.before (now d) (in_direction d less) (in_direction d more) (is d) (up d)
-      (down d) (moved d) (x.energies.up_few d) (x.energies.down_few d) in
-      let left = λ (d : Direction). is_left (order_in sums) d limits es x.before (now d) (in_direction d less) (in_direction d more) (is d) (up d)
-      (down d) (moved d) (x.energies.up_few d) (x.energies.down_few d) in
-      let imported = left Import in let exported = left Export in (
-        record { room = record { import = (may Import).0; export = (may Export).0 }; holds = record { import = (may Import).1; export = (may Export).1 } },
-        λ i. record { import = imported i; export = exported i },
+  exchange was now is most moved =
+      let all = λ (d : Direction).
+      exchanged_once (order_in sums) d limits es x.before (now d) (in_direction d less) (in_direction d more) (is d) (most d) (moved d) (x.energies.up_few d) (x.energies.down_few d) in
+      let imported = all Import in let exported = all Export in (
+        record { room = record { import = imported.0.0; export = exported.0.0 }; holds = record { import = imported.0.1; export = exported.0.1 } },
+        λ i. record { import = imported.1 i; export = exported.1 i },
       )
 
   -- the station's energies
   pub all_may : CanExchange mid.energies less more × (minus_flows (plus_flows mid.energies more) less ≡ in_each (λ d. energy_by (order_in sums) d new))
-  all_may = exchange (λ d. energy_by (order_in sums) d es) (λ d. energy_by (order_in sums) d new) all_was (λ d. omega arith) (λ d. omega arith) x.energies.station
+  all_may = exchange (λ d. energy_by (order_in sums) d es) (λ d. energy_by (order_in sums) d new) all_was (λ d. record { up = omega arith; down = omega arith }) x.energies.station
 
   -- the transaction's
   module _ {was : Option Standing} (was_is : was ≡ find id_cmp tx sums.kept.rows) {own : ByDirection Energy} (own_is : own ≡ flows_in was) where
     pub own_may : CanExchange own less more × (minus_flows (plus_flows own more) less ≡ flows_of_by (order_in sums) tx new)
     own_may = exchange (λ d. energy_of_by (order_in sums) d tx es) (λ d. energy_of_by (order_in sums) d tx new)
         (λ d. ap (in_direction d) own_is ∙ own_flow (order_in sums) d limits es tx sums.kept was was_is x.summed.standing)
-        (λ d. own_up_le (order_in sums) d tx es) (λ d. own_down_le (order_in sums) d tx es) x.energies.own
+        (λ d. own_within (order_in sums) d tx es) x.energies.own
 
     -- what is kept of it, in all sums
     module _ {left : ByDirection Energy} (left_is : left ≡ minus_flows (plus_flows own more) less) {is : Option Standing} (is_with : is ≡ kept_with left tx new) where

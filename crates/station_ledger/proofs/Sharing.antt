@@ -1,10 +1,10 @@
 -- What a board finds of readings that are shared by time.
-use Rattle.std.{proofs.Common.{◌≡◌, ℕ, ◌+◌, ◌==◌, ◌<◌, Bool, true, false, cond, T, List, [], ◌∷◌, ◌++◌, Option, None, Some, length, map, append-nil, refl, sym, ap, ◌∙◌, arith, slice_get, take, drop, not, is_some, append_assoc, ◌⊎◌, ⊎_elim}, specs.List.{AllByRecursion, filter, flat_map}, specs.FinMap.find, specs.FinMap.Entries.below_all, specs.Ordering.eq_by_cmp, specs.Prelude.slice_index, proofs.lemmas.Bool.ne_eqb, specs.Str.bytes_eq, proofs.lemmas.Grind.flat_map-append, proofs.lemmas.List.{flat_map_more, map-append, take_more}, proofs.lemmas.Option.{get_or_from_slice_get, slice_get_within}, proofs.lemmas.Slice.Eq.bytes_eq-Decides}
+use Rattle.std.{proofs.lemmas.Bool.Decides.nat_tests, proofs.Common.{◌≡◌, ℕ, ◌+◌, ◌<◌, Bool, true, cond, T, List, [], ◌∷◌, ◌++◌, Option, None, Some, length, map, append-nil, refl, sym, ap, ◌∙◌, arith, slice_get, take, drop, not, append_assoc, ◌⊎◌}, specs.List.{AllByRecursion, filter, flat_map}, specs.FinMap.find, specs.FinMap.Entries.below_all, specs.Prelude.slice_index, specs.Str.bytes_eq, proofs.lemmas.Grind.flat_map-append, proofs.lemmas.List.{flat_map_more, map-append, take_more}, proofs.lemmas.Option.{get_or_from_slice_get, slice_get_within}, proofs.lemmas.Slice.Eq.bytes_eq-Decides}
 use Rattle.std.specs.FinMap as finite
 use Rattle.event_chain.{specs.Table.{Table, row_of}, specs.Chains.{Chained, stored}, specs.Room.readings_under, proofs.Decided.key_test}
 use Rattle.ledger_model.{specs.InTime.in_time, specs.Limits.Bounds, specs.declared.order.Order.Order, specs.declared.order.Order.TheVariants.{Sequence, Moment}, specs.declared.reading.Direction.TheVariants.{Import, Export}, specs.Content.{Entry, live, live_of}, specs.Deltas.{across, pairs_between}, specs.Energy.{Pair, followed, parts_of, parts_over, readings_by}, specs.Entries.IsRising, specs.Event.{MeterReading, toward}, specs.Gaps.numbers_of, specs.Key.key_cmp, specs.declared.reading.Direction.Direction, proofs.Callers.{find_below, first, in_time-map, second}, specs.ByDirection.flows_toward, specs.Parts.Part, specs.declared.settle.Settle.Settle, specs.declared.settle.Settle.TheVariants.{Later, Closing, Even}}
 use Rattle.quarter_table.{proofs.Several.{made_with, rows_with-append}, specs.declared.row.QuarterRow.QuarterRow, specs.Pairs.{parts_toward, rows_of, rows_with}}
-use Rattle.station_ledger.{specs.ByMoment.AreSlots, specs.Listing.{placed, placed_by, placed_from}, specs.Numbered.{AreNumbered, AreNumbers}, specs.Quarters.readings_at, specs.Shares.{evenly, with_shares}, proofs.Numbered.live_numbered}
+use Rattle.station_ledger.{specs.ByMoment.AreSlots, specs.Listing.{placed, placed_by, placed_from}, specs.Numbered.{AreNumbered, AreNumbers}, specs.Quarters.readings_at, specs.Shares.{evenly, with_shares}, proofs.Moved.none_long, proofs.Numbered.live_numbered}
 use Rattle.reading_index.specs.declared.placed.PlacedReading.{PlacedReading}
 
 -- Shares of more pairs are added behind those of the first.
@@ -46,16 +46,7 @@ IsFound es e = find key_cmp e.0 es ≡ Some e.1
 
 found_behind : (e : Entry) (es fs : List Entry) → T (below_all key_cmp e.0 es) → AllByRecursion (IsFound es) fs → AllByRecursion (IsFound (e ∷ es)) fs
 found_behind e es [] below all = tt
-found_behind e es (f ∷ fs) below all =
-    let there : eq_by_cmp key_cmp f.0 e.0 ≡ false = apart (eq_by_cmp key_cmp f.0 e.0) refl in
-    (ap (λ b. cond b (Some e.1) (find key_cmp f.0 es)) there ∙ all.0, found_behind e es fs below all.1)
-  where
-    never : None ≡ Some f.1 → ⊥
-    never h = cc
-
-    apart : (b : Bool) → eq_by_cmp key_cmp f.0 e.0 ≡ b → b ≡ false
-    apart false is = refl
-    apart true is = absurd (never (sym (find_below e.0 es below) ∙ ap (λ k. find key_cmp k es) (sym ((key_test f.0 e.0).0 is)) ∙ all.0))
+found_behind e es (f ∷ fs) below all = grind (arith, found_behind e es fs below all.1, all.0, find_below e.0 es below, key_test f.0 e.0)
 
 pub all_found : (es : List Entry) → IsRising es → AllByRecursion (IsFound es) es
 all_found [] up = tt
@@ -64,12 +55,7 @@ all_found (e ∷ es) up = (ap (λ b. cond b (Some e.1) (find key_cmp e.0 es)) ((
 -- Those that pass a test are found, too.
 found_passed : (p : Entry → Bool) (all es : List Entry) → AllByRecursion (IsFound all) es → AllByRecursion (IsFound all) (filter p es)
 found_passed p all [] found = tt
-found_passed p all (e ∷ es) found =
-    elim (p e) as (λ b. AllByRecursion (IsFound all) (cond b (e ∷ filter p es) (filter p es))) [
-      | true ↦
-          (found.0, found_passed p all es found.1)
-      | false ↦ found_passed p all es found.1
-    ]
+found_passed p all (e ∷ es) found = grind (arith, found_passed p all es found.1, found.0)
 
 -- What the readings under the numbers of a transaction's entries make is what those of the entries make.
 module _ {X : Type 0} (made : ℕ → List MeterReading → List X) where
@@ -77,25 +63,10 @@ module _ {X : Type 0} (made : ℕ → List MeterReading → List X) where
       → flat_map (λ n. made n (readings_under d (find key_cmp (record { tx = tx; seq = n }) all))) (map (λ (e : Entry). e.0.seq) (filter (λ (e : Entry). bytes_eq tx e.0.tx) es))
       ≡ flat_map (λ (e : Entry). made e.0.seq (toward d e.1.event.readings)) (filter (λ (e : Entry). bytes_eq tx e.0.tx) es)
   read_each d tx all [] found = refl
-  read_each d tx all (e ∷ es) found = step (bytes_eq tx e.0.tx) refl (read_each d tx all es found.1)
-    where
-      own : List Entry
-      own = filter (λ (f : Entry). bytes_eq tx f.0.tx) es
-
-      reads : ℕ → List X
-      reads n = made n (readings_under d (find key_cmp (record { tx = tx; seq = n }) all))
-
-      of_entry : Entry → List X
-      of_entry f = made f.0.seq (toward d f.1.event.readings)
-
-      step : (b : Bool) → bytes_eq tx e.0.tx ≡ b → flat_map reads (map (λ (f : Entry). f.0.seq) own) ≡ flat_map of_entry own
-          → flat_map reads (map (λ (f : Entry). f.0.seq) (cond b (e ∷ own) own)) ≡ flat_map of_entry (cond b (e ∷ own) own)
-      step false is rest = rest
-      step true is rest =
-          let same : tx ≡ e.0.tx = (bytes_eq-Decides tx e.0.tx).0 is in
-          let here : readings_under d (find key_cmp (record { tx = tx; seq = e.0.seq }) all) ≡ toward d e.1.event.readings =
-          ap (λ t. readings_under d (find key_cmp (record { tx = t; seq = e.0.seq }) all)) same ∙ ap (readings_under d) found.0 in
-          λ i. made e.0.seq (here i) ++ rest i
+  read_each d tx all (e ∷ es) found =
+      let here : bytes_eq tx e.0.tx ≡ true → readings_under d (find key_cmp (record { tx = tx; seq = e.0.seq }) all) ≡ toward d e.1.event.readings = λ is.
+      ap (λ t. readings_under d (find key_cmp (record { tx = t; seq = e.0.seq }) all)) ((bytes_eq-Decides tx e.0.tx).0 is) ∙ ap (readings_under d) found.0 in
+      grind (arith, here, read_each d tx all es found.1)
 
   -- So along the numbers of a transaction's live events.
   pub read_along : (d : Direction) (tx : List ℕ) (chains : Chained)
@@ -113,11 +84,6 @@ numbers_each (e ∷ es) h = (h.0.sequence, numbers_each es h.1)
 
 pub walk_numbers : (tx : List ℕ) (es : List Entry) → AreNumbered es → AreNumbers (numbers_of tx es)
 walk_numbers tx es h = numbers_each (live_of tx es) (live_numbered tx es h)
-
--- A list that is shorter than one element.
-pub empty : {X : Type 0} (xs : List X) → length xs < 1 → xs ≡ []
-empty [] h = refl
-empty (x ∷ xs) h = absurd (omega (arith, h))
 
 -- The next number of a walk, and the rest.
 pub next_number : (was rest : List ℕ) (n : ℕ) → 0 < length was → n ≡ slice_index was 0 → rest ≡ drop 1 was → was ≡ n ∷ rest
@@ -147,15 +113,7 @@ placed_readings Moment d tx es =
 
 -- A transaction without a slot has no reading by moment.
 pub none_in_time : (d : Direction) (tx : List ℕ) (limits : Bounds) (es : List Entry) (slots : Table) → AreSlots limits es slots → row_of tx slots.rows ≡ None → placed_by Moment d tx es ≡ []
-none_in_time d tx limits es slots are none =
-    ap (λ us. in_time (λ (r : PlacedReading). r.reading.moment) (flat_map (placed d) us)) (none_live (live_of tx es) (sym (ap is_some none) ∙ are.each tx))
-  where
-    none_live : (us : List Entry) → false ≡ not (length us == 0) → us ≡ []
-    none_live [] h = refl
-    none_live (u ∷ us) h = absurd (never (h ∙ ap not (ne_eqb (length (u ∷ us)) 0 (λ same. absurd (omega (arith, same))))))
-      where
-        never : false ≡ true → ⊥
-        never e = cc
+none_in_time d tx limits es slots are none = grind (arith, nat_tests, none_long (live_of tx es), are.each tx, none)
 
 -- The rows of both directions, one after the other.
 pub rows_shared : (length : ℕ) (ps qs : List Pair) (rows next : List QuarterRow) → rows ≡ with_shares length Import ps [] → next ≡ with_shares length Export qs rows
@@ -166,10 +124,4 @@ rows_shared length ps qs rows next one two =
 
 -- By two of the rules nothing is shared.
 pub not_even : (rule : Settle) → (rule ≡ Later) ⊎ (rule ≡ Closing) → rule ≡ Even → ⊥
-not_even rule one even = ⊎_elim {C = ⊥} (λ (later : rule ≡ Later). apart (sym later ∙ even)) (λ (closing : rule ≡ Closing). other (sym closing ∙ even)) one
-  where
-    apart : Later ≡ Even → ⊥
-    apart h = cc
-
-    other : Closing ≡ Even → ⊥
-    other h = cc
+not_even rule one even = grind (arith, one, even)

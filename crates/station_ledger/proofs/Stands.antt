@@ -1,9 +1,9 @@
 -- A transaction with another standing, in all sums.
-use Rattle.std.{proofs.Common.{◌≡◌, ℕ, ◌+◌, ◌-◌, ◌<◌, ◌≤◌, Bool, true, false, cond, List, Option, Some, None, is_some, length, refl, sym, ap, subst, ◌∙◌, arith}, specs.Str.bytes_eq, specs.FinMap.find, specs.Ordering.eq_by_cmp, proofs.lemmas.Slice.Eq.bytes_eq-Decides, specs.Cmp.eq_by_cmp_equiv}
+use Rattle.std.{proofs.Common.{◌≡◌, ℕ, ◌+◌, ◌-◌, ◌<◌, ◌≤◌, false, cond, List, Option, Some, None, is_some, length, sym, ap, subst, ◌∙◌, arith}, specs.Str.bytes_eq, specs.FinMap.find, specs.Ordering.eq_by_cmp, proofs.lemmas.Slice.Eq.bytes_eq-Decides, specs.Cmp.eq_by_cmp_equiv}
 use Rattle.energy_flow.specs.Flow.{Energy, plus, minus, CanPlus, CanMinus}
-use Rattle.ledger_model.{specs.declared.figures.Figures.Figures, specs.ByDirection.in_direction, specs.Content.{Entry, live, transactions_of}, specs.Energy.energy_of_by, specs.Evse.{energy_at_by, transactions_at}, specs.declared.order.Order.Order, specs.declared.reading.Direction.Direction, specs.declared.reading.Direction.TheVariants.{Import, Export}, specs.Limits.Bounds, specs.Ranges.greatest_evse}
+use Rattle.ledger_model.{proofs.EnergyLemmas.same_energy, specs.declared.figures.Figures.Figures, specs.ByDirection.in_direction, specs.Content.{Entry, live, transactions_of}, specs.Energy.energy_of_by, specs.Evse.{energy_at_by, transactions_at}, specs.declared.order.Order.Order, specs.declared.reading.Direction.Direction, specs.declared.reading.Direction.TheVariants.{Import, Export}, specs.Limits.Bounds, specs.Ranges.greatest_evse}
 use Rattle.transaction_map.{specs.Map.{Mapped, AreRising, id_cmp}, proofs.Rising.{equal_ids, id_total}, proofs.Found.{found_put, found_out, rising_put, rising_out, length_put, length_out}}
-use Rattle.station_ledger.{specs.declared.standing.Standing.Standing, specs.declared.totals.EvseSum.EvseSum, specs.Standing.kept_of, specs.Moved.{live_in, one_in, complete_in, missing_in, flows_in, one_at, flows_at, IsMoved, sum_at, with_one, without_one, with_figures, without_figures, HasRoomAt, CountsAt, HaveRoom, DoCount}, specs.Sums.{AreStanding, AreEvseSums, AreCounts, AreAllowed, keep}, proofs.Moved.{live_kept, missing_kept, flow_in_kept, kept_same, one_in_le, complete_in_le, one_at_le, flow_at_le}, proofs.Bounded.{few_up, few_down, live_le, at_evse_le, evse_up_le, evse_down_le, own_up_le, own_down_le, own_missing_le}}
+use Rattle.station_ledger.{specs.declared.standing.Standing.Standing, specs.declared.totals.EvseSum.EvseSum, specs.Standing.kept_of, specs.Moved.{live_in, one_in, complete_in, missing_in, flows_in, one_at, flows_at, IsMoved, sum_at, with_one, without_one, with_figures, without_figures, HasRoomAt, CountsAt, HaveRoom, DoCount}, specs.Sums.{AreStanding, AreEvseSums, AreCounts, AreAllowed, keep}, proofs.Moved.{live_kept, missing_kept, flow_in_kept, kept_same, one_in_le, complete_in_le, one_at_le, flow_at_le}, proofs.Bounded.{at_evse_le, evse_le, few_energy, few_station, live_le, own_missing_le, own_within}}
 
 -- what is found where a transaction's row was written or taken out
 found_keep : (u tx : List ℕ) (o : Option Standing) (rows : List (List ℕ × Standing)) → find id_cmp u (keep tx o rows) ≡ cond (eq_by_cmp id_cmp u tx) o (find id_cmp u rows)
@@ -12,18 +12,7 @@ found_keep u tx (Some s) rows = found_put u tx s rows
 
 -- ids that do not tie are different
 apart_ids : (u tx : List ℕ) → eq_by_cmp id_cmp u tx ≡ false → bytes_eq u tx ≡ false
-apart_ids u tx e = elim (bytes_eq u tx) as (λ b. bytes_eq u tx ≡ b → b ≡ false) [
-  | true ↦ λ h. let f : false ≡ true = sym e ∙ ap (λ t. eq_by_cmp id_cmp t tx) ((bytes_eq-Decides u tx).0 h) ∙ (eq_by_cmp_equiv id_total).refl tx in cc
-  | false ↦ λ _. refl
-] refl
-
-is_one : (o : Option Standing) → one_in o ≡ cond (is_some o) 1 0
-is_one None = refl
-is_one (Some s) = refl
-
-some_one : (o : Option Standing) → (o ≡ None → ⊥) → one_in o ≡ 1
-some_one None h = absurd (h refl)
-some_one (Some s) h = refl
+apart_ids u tx e = grind (arith, e, bytes_eq-Decides u tx, (eq_by_cmp_equiv id_total).refl tx)
 
 module _ (order : Order) (limits : Bounds) (tx : List ℕ) (es new : List Entry) (moved : IsMoved order tx es new)
     (before : AreAllowed order limits es) (after : AreAllowed order limits new) (was is : Option Standing)
@@ -35,16 +24,13 @@ module _ (order : Order) (limits : Bounds) (tx : List ℕ) (es new : List Entry)
     pub place : find id_cmp tx kept.rows ≡ None → (is ≡ None → ⊥) → length kept.rows < kept.capacity
     place none some =
         let gone : one_in (kept_of order tx es) ≡ 0 = ap one_in (sym (standing.each tx) ∙ none) in
-        let here : one_in (kept_of order tx new) ≡ 1 = ap one_in (sym is_is) ∙ some_one is some in
+        let here : one_in (kept_of order tx new) ≡ 1 = ap one_in (sym is_is) ∙ grind (arith, some) in
         omega (arith, standing.number, standing.room, moved.transactions, gone, here, after.figures_within.transactions)
 
     pub stands : (next : Mapped Standing) → next.rows ≡ keep tx is kept.rows → next.capacity ≡ kept.capacity → AreStanding order limits new next
     stands next rows same = record {
       each = λ u. ap (find id_cmp u) rows ∙ found_keep u tx is kept.rows
-          ∙ (elim (eq_by_cmp id_cmp u tx) as (λ b. eq_by_cmp id_cmp u tx ≡ b → cond b is (find id_cmp u kept.rows) ≡ kept_of order u new) [
-            | true ↦ λ e. is_is ∙ ap (λ t. kept_of order t new) (sym (equal_ids u tx e))
-            | false ↦ λ e. standing.each u ∙ sym (kept_same order u es new (moved.others u (apart_ids u tx e)))
-          ] refl);
+          ∙ grind (arith, is_is, standing.each u, kept_same order u es new, moved.others u, apart_ids u tx, equal_ids u tx);
       rising = subst (λ rs. AreRising rs) (sym rows) (rises is);
       number = ap length rows ∙ counted is is_is;
       room = same ∙ standing.room;
@@ -54,16 +40,11 @@ module _ (order : Order) (limits : Bounds) (tx : List ℕ) (es new : List Entry)
       rises (Some s) = rising_put tx s kept.rows standing.rising
 
       was_one : one_in (kept_of order tx es) ≡ cond (is_some (find id_cmp tx kept.rows)) 1 0
-      was_one = ap one_in (sym (standing.each tx)) ∙ is_one (find id_cmp tx kept.rows)
-
-      grown : (b : Bool) (n : ℕ) → cond b n (n + 1) + cond b 1 0 ≡ n + 1
-      grown true n = refl
-      grown false n = omega arith
+      was_one = ap one_in (sym (standing.each tx)) ∙ grind arith
 
       counted : (o : Option Standing) → o ≡ kept_of order tx new → length (keep tx o kept.rows) ≡ length (transactions_of (live new))
       counted None now = omega (arith, length_out tx kept.rows standing.rising, standing.number, moved.transactions, was_one, ap one_in now)
-      counted (Some s) now =
-          omega (arith, length_put tx s kept.rows standing.rising, standing.number, moved.transactions, was_one, ap one_in now, grown (is_some (find id_cmp tx kept.rows)) (length kept.rows))
+      counted (Some s) now = grind (arith, length_put tx s kept.rows standing.rising, standing.number, moved.transactions, was_one, ap one_in now)
 
   module _ (was_at : was ≡ kept_of order tx es) where
     flow_is : (d : Direction) → in_direction d (flows_in is) ≡ energy_of_by order d tx new
@@ -71,28 +52,13 @@ module _ (order : Order) (limits : Bounds) (tx : List ℕ) (es new : List Entry)
 
     module _ (evses : List EvseSum) (sums : AreEvseSums order es evses) where
       room_for : (d : Direction) (n : ℕ) → CanPlus (energy_at_by order d n es) (in_direction d (flows_at n is))
-      room_for d n = record {
-        up = omega (
-          arith,
-          evse_up_le order d n es,
-          few_up order d limits es before,
-          before.most_readings_within,
-          (flow_at_le d n is).0,
-          ap (λ (e : Energy). e.up) (flow_is d),
-          own_up_le order d tx new,
-          few_up order d limits new after,
-        );
-        down = omega (
-          arith,
-          evse_down_le order d n es,
-          few_down order d limits es before,
-          before.most_readings_within,
-          (flow_at_le d n is).1,
-          ap (λ (e : Energy). e.down) (flow_is d),
-          own_down_le order d tx new,
-          few_down order d limits new after,
-        );
-      }
+      room_for d n =
+          let here = evse_le order d n es in let all = few_station order d limits es before in let at = flow_at_le d n is in
+          let own = own_within order d tx new in let then = few_energy order d limits new after in
+          record {
+            up = omega (arith, here.up, all.up, at.0, ap (λ (e : Energy). e.up) (flow_is d), own.up, then.up, before.most_readings_within);
+            down = omega (arith, here.down, all.down, at.1, ap (λ (e : Energy). e.down) (flow_is d), own.down, then.down, before.most_readings_within);
+          }
 
       pub room_at : (n : ℕ) → n ≤ greatest_evse → HasRoomAt n is (sum_at evses n)
       room_at n le = subst (HasRoomAt n is) (sym (sums.each n le)) (record {
@@ -118,12 +84,7 @@ module _ (order : Order) (limits : Bounds) (tx : List ℕ) (es new : List Entry)
       })
 
       left_at : (d : Direction) (n : ℕ) → minus (plus (energy_at_by order d n es) (in_direction d (flows_at n is))) (in_direction d (flows_at n was)) ≡ energy_at_by order d n new
-      left_at d n =
-          let up : ((energy_at_by order d n es).up + (in_direction d (flows_at n is)).up) - (in_direction d (flows_at n was)).up ≡ (energy_at_by order d n new).up =
-          omega (arith, ap (λ (e : Energy). e.up) (flows d n)) in
-          let down : ((energy_at_by order d n es).down + (in_direction d (flows_at n is)).down) - (in_direction d (flows_at n was)).down ≡ (energy_at_by order d n new).down =
-          omega (arith, ap (λ (e : Energy). e.down) (flows d n)) in
-          λ i. record { up = up i; down = down i }
+      left_at d n = same_energy _ _ (omega (arith, ap (λ (e : Energy). e.up) (flows d n))) (omega (arith, ap (λ (e : Energy). e.down) (flows d n)))
 
       pub sums_stand : (next : List EvseSum) → length next ≡ greatest_evse + 1 → ((n : ℕ) → sum_at next n ≡ without_one n was (with_one n is (sum_at evses n))) → AreEvseSums order new next
       sums_stand next all each = record {
@@ -140,16 +101,9 @@ module _ (order : Order) (limits : Bounds) (tx : List ℕ) (es new : List Entry)
         events = omega (arith, counts.events, before.figures_within.events, before.most_events_within, ap live_in is_is, live_kept order tx new, live_le tx new, after.figures_within.events);
         transactions = omega (arith, counts.transactions, before.figures_within.transactions, before.most_transactions_within, one_in_le is);
         complete = omega (arith, counts.complete, before.figures_within.complete, before.most_transactions_within, complete_in_le is);
-        missing_fit = omega (
-          arith,
-          counts.missing_are,
-          before.figures_within.missing,
-          before.most_transactions_within,
-          ap missing_in is_is,
-          missing_kept order tx new,
-          own_missing_le tx new,
-          after.figures_within.missing,
-        );
+        missing_fit =
+            let now = ap missing_in is_is ∙ missing_kept order tx new in
+            omega (arith, counts.missing_are, before.figures_within.missing, before.most_transactions_within, now, own_missing_le tx new, after.figures_within.missing);
       }
 
       pub do_count : DoCount was (with_figures is f)

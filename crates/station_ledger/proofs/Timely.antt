@@ -1,45 +1,22 @@
 -- Each reading of events in range is at a moment, and so the period of each pair begins at one.
-use Rattle.std.{proofs.Common.{◌≡◌, ℕ, zero, suc, ◌+◌, ◌-◌, ◌*◌, ◌<◌, ◌≤◌, ◌&&◌, ◌⊎◌, inl, inr, max, not, Bool, true, false, cond, nat_le, nat_lt, List, [], ◌∷◌, ◌++◌, map, refl, sym, ap, ◌∙◌, subst, arith, ⊎_elim}, specs.List.{All, flat_map}, specs.Str.bytes_eq, proofs.Math.Nat.{max-eq_left, max-eq_right, mul-le-mul_right}, proofs.lemmas.Bool.{cases_lt, le-ltb}, proofs.lemmas.List.Elements.{All-nil, All-cons, All-append}}
-use Rattle.ledger_model.{specs.Periods.Periods, specs.BoardLaws.IsIn, specs.Content.{Entry, live, live_of, transactions_of}, specs.Energy.{Pair, all_pairs_by, change_of, followed, pairs_by, parts_of, parts_of_both, parts_over, readings_of}, specs.Parts.{Change, Part, is_shared, level_at, longest_share, parts_by, shares, shares_from, whole}, specs.Event.{MeterReading, IsMeterReading, same_direction, toward}, specs.InTime.{in_order, in_time, put_in_time}, specs.declared.order.Order.Order, specs.declared.order.Order.TheVariants.{Sequence, Moment}, specs.declared.reading.Direction.Direction, specs.declared.reading.Direction.TheVariants.{Import, Export}, specs.declared.settle.Settle.Settle, specs.declared.settle.Settle.TheVariants.{Later, Closing, Even}, specs.Moment.{IsMoment, first_moment}, specs.Settling.settled_by, specs.Quarter.{IsPeriod, IsQuarterOf, quarter_at}, proofs.Bounds.AreEntries-filter, proofs.Callers.AreEntries}
+use Rattle.std.{proofs.lemmas.Bool.Decides.nat_tests, proofs.Common.{◌≡◌, ℕ, zero, suc, ◌+◌, ◌-◌, ◌*◌, ◌<◌, ◌≤◌, ◌⊎◌, inl, inr, max, not, Bool, true, false, cond, List, [], ◌∷◌, ◌++◌, map, refl, sym, subst, arith, ⊎_elim}, specs.List.{All, AllByRecursion, flat_map}, specs.Str.bytes_eq, proofs.Math.Nat.{mul-le-mul_right}, proofs.lemmas.List.Elements.{All-nil, All-cons, All-append, recursion_from_All}}
+use Rattle.ledger_model.{specs.Periods.Periods, specs.BoardLaws.IsIn, specs.Content.{Entry, live, live_of, transactions_of}, specs.Energy.{Pair, all_pairs_by, change_of, followed, pairs_by, parts_of, parts_of_both, parts_over, readings_of}, specs.Parts.{Change, Part, is_shared, level_at, parts_by, shares, shares_from, whole}, specs.Event.{MeterReading, toward}, specs.InTime.{in_order}, specs.declared.order.Order.Order, specs.declared.order.Order.TheVariants.{Sequence, Moment}, specs.declared.reading.Direction.Direction, specs.declared.reading.Direction.TheVariants.{Import, Export}, specs.declared.settle.Settle.Settle, specs.declared.settle.Settle.TheVariants.{Later, Closing, Even}, specs.Moment.{IsMoment, first_moment}, specs.Settling.settled_by, specs.Quarter.{IsPeriod, IsQuarterOf, quarter_at}, proofs.Bounds.AreEntries-filter, proofs.Callers.AreEntries}
+use Rattle.station_ledger.proofs.Each.{each_append, each_in_time, each_toward}
 
 -- readings at moments
 abbrev AreTimely : List MeterReading → Type 0
-AreTimely [] = Unit {0}
-AreTimely (r ∷ rs) = IsMoment r.moment × AreTimely rs
-
-timely-append : (rs ss : List MeterReading) → AreTimely rs → AreTimely ss → AreTimely (rs ++ ss)
-timely-append [] ss h k = k
-timely-append (r ∷ rs) ss h k = (h.0, timely-append rs ss h.1 k)
-
-timely-all : (rs : List MeterReading) → All IsMeterReading rs → AreTimely rs
-timely-all [] h = tt
-timely-all (r ∷ rs) h = ((h 0 r (omega arith)).moment, timely-all rs (λ k d lt. h (suc k) d (omega arith)))
-
-timely-some : (d : Direction) (rs : List MeterReading) → AreTimely rs → AreTimely (toward d rs)
-timely-some d [] h = tt
-timely-some d (r ∷ rs) h =
-    let rest = timely-some d rs h.1 in
-    elim (same_direction d r.direction) as (λ b. AreTimely (cond b (r ∷ toward d rs) (toward d rs))) [ true ↦ (h.0, rest) | false ↦ rest ]
+AreTimely rs = AllByRecursion (λ (r : MeterReading). IsMoment r.moment) rs
 
 timely-entries : (d : Direction) (es : List Entry) → AreEntries es → AreTimely (flat_map (λ e. toward d e.1.event.readings) es)
 timely-entries d [] h = tt
 timely-entries d (e ∷ es) h =
-    timely-append (toward d e.1.event.readings) (flat_map (λ f. toward d f.1.event.readings) es)
-    (timely-some d e.1.event.readings (timely-all e.1.event.readings h.0.event.readings)) (timely-entries d es h.1)
-
-timely-put : (r : MeterReading) (rs : List MeterReading) → IsMoment r.moment → AreTimely rs → AreTimely (put_in_time (λ s. s.moment) r rs)
-timely-put r [] at h = (at, tt)
-timely-put r (s ∷ rs) at h =
-    let rest = timely-put r rs at h.1 in
-    elim (nat_lt s.moment r.moment) as (λ b. AreTimely (cond b (s ∷ put_in_time (λ t. t.moment) r rs) (r ∷ s ∷ rs))) [ true ↦ (h.0, rest) | false ↦ (at, h) ]
-
-timely-in_time : (rs : List MeterReading) → AreTimely rs → AreTimely (in_time (λ s. s.moment) rs)
-timely-in_time [] h = tt
-timely-in_time (r ∷ rs) h = timely-put r (in_time (λ s. s.moment) rs) h.0 (timely-in_time rs h.1)
+    each_append (λ r. IsMoment r.moment) (toward d e.1.event.readings) (flat_map (λ f. toward d f.1.event.readings) es)
+    (each_toward (λ r. IsMoment r.moment) d e.1.event.readings (recursion_from_All (λ r. IsMoment r.moment) e.1.event.readings (λ k r lt. (h.0.event.readings k r lt).moment)))
+    (timely-entries d es h.1)
 
 timely-in_order : (order : Order) (rs : List MeterReading) → AreTimely rs → AreTimely (in_order order (λ s. s.moment) rs)
 timely-in_order Sequence rs h = h
-timely-in_order Moment rs h = timely-in_time rs h
+timely-in_order Moment rs h = each_in_time (λ (r : MeterReading). IsMoment r.moment) (λ s. s.moment) rs h
 
 -- both readings of a pair are at moments
 abbrev pub IsTimed : Pair → Type 0
@@ -66,22 +43,11 @@ pairs_in_time order d es h = λ k p lt. (pairs_timed order d es h k p lt).1
 
 -- the period of a moment begins at one
 own_quarter : (period moment : ℕ) → IsPeriod period → IsMoment moment → IsQuarterOf period (quarter_at period moment)
-own_quarter period moment is at =
-    ⊎_elim {C = IsQuarterOf period (quarter_at period moment)} (λ (e : period ≡ 300). short 300 e (omega (arith, at.0), omega (arith, at.1)))
-    (λ more. ⊎_elim {C = IsQuarterOf period (quarter_at period moment)} (λ (e : period ≡ 900). short 900 e (omega (arith, at.0), omega (arith, at.1)))
-    (λ most. ⊎_elim {C = IsQuarterOf period (quarter_at period moment)} (λ (e : period ≡ 1_800). short 1_800 e (omega (arith, at.0), omega (arith, at.1)))
-    (λ (e : period ≡ 3_600). short 3_600 e (omega (arith, at.0), omega (arith, at.1))) most) more) is
-  where
-    short : (n : ℕ) → period ≡ n → IsQuarterOf n (quarter_at n moment) → IsQuarterOf period (quarter_at period moment)
-    short n e h = subst (λ s. IsQuarterOf s (quarter_at s moment)) (sym e) h
+own_quarter period moment is at = grind (arith, is, at)
 
 -- the nanosecond before a moment is one, but for the first
 before : (moment : ℕ) → IsMoment moment → IsMoment (max (moment - 1) first_moment)
-before moment at =
-    ⊎_elim {C = IsMoment (max (moment - 1) first_moment)}
-    (λ (below : moment - 1 < first_moment). subst IsMoment (sym (max-eq_right {n = moment - 1} (omega (arith, below)))) (omega arith, omega arith))
-    (λ (above : first_moment ≤ moment - 1). subst IsMoment (sym (max-eq_left above)) (above, omega (arith, at.1)))
-    (cases_lt (moment - 1) first_moment)
+before moment at = grind (arith, at.0, at.1)
 
 -- whichever period a rule finds begins at a moment
 settled_quarter : (rule : Settle) (period moment : ℕ) → IsPeriod period → IsMoment moment → IsQuarterOf period (settled_by rule period moment)
@@ -90,29 +56,17 @@ settled_quarter Closing period moment is at = own_quarter period (max (moment - 
 settled_quarter Even period moment is at = own_quarter period (max (moment - 1) first_moment) is (before moment at)
 
 whole_in : (rule : Settle) (length : ℕ) (c : Change) (k : ℕ) → IsPeriod length → IsMoment c.until → IsIn k (map (λ (t : Part). t.0) (whole rule length c)) → IsQuarterOf length k
-whole_in rule length c k is until h =
-    ⊎_elim {C = IsQuarterOf length k}
-    (λ (e : k ≡ settled_by rule length c.until). subst (IsQuarterOf length) (sym e) (settled_quarter rule length c.until is until))
-    (λ never. absurd never) h
+whole_in rule length c k is until (inl e) = subst (IsQuarterOf length) (sym e) (settled_quarter rule length c.until is until)
+whole_in rule length c k is until (inr never) = absurd never
 
 -- a later moment lies in no earlier period
 quarters_rise : (length m n : ℕ) → IsPeriod length → m ≤ n → quarter_at length m ≤ quarter_at length n
-quarters_rise length m n is le =
-    ⊎_elim {C = quarter_at length m ≤ quarter_at length n} (λ (e : length ≡ 300). at 300 e (omega (arith, le)))
-    (λ more. ⊎_elim {C = quarter_at length m ≤ quarter_at length n} (λ (e : length ≡ 900). at 900 e (omega (arith, le)))
-    (λ most. ⊎_elim {C = quarter_at length m ≤ quarter_at length n} (λ (e : length ≡ 1_800). at 1_800 e (omega (arith, le)))
-    (λ (e : length ≡ 3_600). at 3_600 e (omega (arith, le))) most) more) is
-  where
-    at : (k : ℕ) → length ≡ k → quarter_at k m ≤ quarter_at k n → quarter_at length m ≤ quarter_at length n
-    at k e h = subst (λ s. quarter_at s m ≤ quarter_at s n) (sym e) h
+quarters_rise length m n is le = grind (arith, is, le)
 
 -- the shares of a difference are those of the periods in a row
 in_shares : (length : ℕ) (c : Change) (q level n k : ℕ) → IsIn k (map (λ (t : Part). t.0) (shares_from length c q level n)) → (q ≤ k) × (k ≤ q + n)
-in_shares length c q level zero k h = ⊎_elim {C = (q ≤ k) × (k ≤ q + 0)} (λ (e : k ≡ q). (omega (arith, e), omega (arith, e))) (λ never. absurd never) h
-in_shares length c q level (suc n) k h =
-    ⊎_elim {C = (q ≤ k) × (k ≤ q + suc n)} (λ (e : k ≡ q). (omega (arith, e), omega (arith, e)))
-    (λ (there : IsIn k (map (λ (t : Part). t.0) (shares_from length c (q + 1) (level_at c ((q + 1) * length)) n))).
-    let rest = in_shares length c (q + 1) (level_at c ((q + 1) * length)) n k there in let low = rest.0 in let high = rest.1 in (omega (arith, low), omega (arith, high))) h
+in_shares length c q level zero k h = grind (arith, h)
+in_shares length c q level (suc n) k h = grind (arith, in_shares length c (q + 1) (level_at c ((q + 1) * length)) n k, h)
 
 -- a period between two of moments begins at one
 between : (length low k high : ℕ) → IsQuarterOf length low → IsQuarterOf length high → low ≤ k → k ≤ high → IsQuarterOf length k
@@ -123,12 +77,7 @@ between length low k high lower upper after before =
     (omega (arith, from, low_moment), omega (arith, to, high_moment))
 
 rising_moments : (c : Change) → is_shared c ≡ true → c.since < c.until
-rising_moments c shared = ⊎_elim {C = c.since < c.until} (λ (lt : c.since < c.until). lt)
-    (λ (le : c.until ≤ c.since). absurd (never (sym (ap (λ b. b && nat_le (c.until - c.since) longest_share) (le-ltb c.since c.until le)) ∙ shared)))
-    (cases_lt c.since c.until)
-  where
-    never : false ≡ true → ⊥
-    never h = cc
+rising_moments c shared = grind (arith, nat_tests, shared)
 
 -- each part of a difference between moments belongs to one of the periods
 in_parts : (rule : Settle) (length : ℕ) (c : Change) (k : ℕ) → IsPeriod length → IsMoment c.since → IsMoment c.until → IsIn k (map (λ (t : Part). t.0) (parts_by rule length c)) → IsQuarterOf length k
@@ -139,13 +88,11 @@ in_parts Even length c k is since until h = shared_in (is_shared c) refl h
     shared_in : (b : Bool) → is_shared c ≡ b → IsIn k (map (λ (t : Part). t.0) (cond b (shares length c) (whole Even length c))) → IsQuarterOf length k
     shared_in false not_so there = whole_in Even length c k is until there
     shared_in true so there =
-        let up = rising_moments c so in
-        let first = quarter_at length c.since in let last = quarter_at length (c.until - 1) in
-        let own = in_shares length c first c.earlier (last - first) k there in let low = own.0 in let high = own.1 in
+        let up = rising_moments c so in let first = quarter_at length c.since in let last = quarter_at length (c.until - 1) in
+        let own = in_shares length c first c.earlier (last - first) k there in
         let ordered : first ≤ last = quarters_rise length c.since (c.until - 1) is (omega (arith, up)) in
         between length first k last (own_quarter length c.since is since)
-        (own_quarter length (c.until - 1) is (let a = since.0 in let b = until.1 in (omega (arith, a, up), omega (arith, b))))
-        low (omega (arith, high, ordered))
+        (own_quarter length (c.until - 1) is (omega (arith, since.0, up), omega (arith, until.1))) own.0 (omega (arith, own.1, ordered))
 
 own_parts : (length : ℕ) (ts : List Part) → ((k : ℕ) → IsIn k (map (λ (t : Part). t.0) ts) → IsQuarterOf length k) → All (λ (t : Part). IsQuarterOf length t.0) ts
 own_parts length [] h = All-nil (λ (t : Part). IsQuarterOf length t.0)
@@ -157,19 +104,14 @@ parts_own period p is since until = own_parts period.length (parts_of period p) 
 -- a part of several differences is one of the first, or of the others
 either_part : (ts us : List Part) (k : ℕ) → IsIn k (map (λ (t : Part). t.0) (ts ++ us)) → IsIn k (map (λ (t : Part). t.0) ts) ⊎ IsIn k (map (λ (t : Part). t.0) us)
 either_part [] us k h = inr h
-either_part (t ∷ ts) us k h =
-    ⊎_elim {C = IsIn k (map (λ (s : Part). s.0) (t ∷ ts)) ⊎ IsIn k (map (λ (s : Part). s.0) us)} (λ (e : k ≡ t.0). inl (inl e))
-    (λ (there : IsIn k (map (λ (s : Part). s.0) (ts ++ us))).
-    ⊎_elim {C = IsIn k (map (λ (s : Part). s.0) (t ∷ ts)) ⊎ IsIn k (map (λ (s : Part). s.0) us)} (λ one. inl (inr one)) (λ other. inr other) (either_part ts us k there)) h
+either_part (t ∷ ts) us k h = grind (arith, either_part ts us k, h)
 
 one_direction : (period : Periods) (ps : List Pair) (k : ℕ) → IsPeriod period.length → All IsTimed ps → IsIn k (map (λ (t : Part). t.0) (parts_over period ps)) → IsQuarterOf period.length k
 one_direction period [] k is at h = absurd h
 one_direction period (p ∷ ps) k is at h =
-    ⊎_elim {C = IsQuarterOf period.length k}
-    (λ (here : IsIn k (map (λ (t : Part). t.0) (parts_of period p))). let own : IsTimed p =
-    at 0 p (omega arith) in in_parts period.rule period.length (change_of p) k is own.0 own.1 here)
-    (λ (there : IsIn k (map (λ (t : Part). t.0) (parts_over period ps))). one_direction period ps k is (λ j d lt. at (suc j) d (omega arith)) there)
-    (either_part (parts_of period p) (parts_over period ps) k h)
+    let own : IsTimed p = at 0 p (omega arith) in
+    ⊎_elim {C = IsQuarterOf period.length k} (λ here. in_parts period.rule period.length (change_of p) k is own.0 own.1 here)
+    (λ there. one_direction period ps k is (λ j d lt. at (suc j) d (omega arith)) there) (either_part (parts_of period p) (parts_over period ps) k h)
 
 -- each period that a station shows begins at a moment
 pub in_period : (order : Order) (period : Periods) (es : List Entry) (k : ℕ) → AreEntries es → IsPeriod period.length

@@ -1,9 +1,9 @@
 -- Pairs that go and pairs that come, while the others are kept, and what they move.
-use Rattle.std.{proofs.Common.{◌≡◌, ℕ, ◌+◌, ◌-◌, ◌*◌, ◌≤◌, List, [], ◌∷◌, ◌++◌, length, refl, sym, ap, ◌∙◌, arith, length-append}, specs.List.sum_by, proofs.lemmas.List.Sums.{sum_by-append, sum_by-cons}}
+use Rattle.std.{proofs.Common.{◌≡◌, ℕ, ◌+◌, ◌*◌, ◌≤◌, List, [], ◌∷◌, ◌++◌, length, refl, sym, ap, ◌∙◌, arith, length-append}, specs.List.sum_by, proofs.lemmas.List.Sums.{sum_by-append, sum_by-cons}}
 use Rattle.energy_flow.specs.Flow.{Energy, plus, minus, CanPlus, CanMinus}
-use Rattle.ledger_model.{specs.ByDirection.in_direction, specs.Periods.Periods, specs.Content.Entry, specs.Deltas.{IsOneMore, came_by, gone_by, kept_by}, specs.Energy.{Pair, difference, energy, energy_by, energy_of, energy_over, pairs, pairs_of}, specs.declared.order.Order.Order, specs.declared.order.Order.TheVariants.Sequence, specs.declared.reading.Direction.Direction, specs.declared.reading.Direction.TheVariants.{Import, Export}, specs.Limits.Bounds, specs.Ranges.{greatest_reading, most_readings}, proofs.Callers.{less_kept, more_kept, transaction_moved}}
+use Rattle.ledger_model.{proofs.EnergyLemmas.same_energy, specs.ByDirection.in_direction, specs.Periods.Periods, specs.Content.Entry, specs.Deltas.{IsOneMore, came_by, gone_by, kept_by}, specs.Energy.{Pair, difference, energy, energy_by, energy_of, energy_over, pairs, pairs_of}, specs.declared.order.Order.Order, specs.declared.order.Order.TheVariants.Sequence, specs.declared.reading.Direction.Direction, specs.declared.reading.Direction.TheVariants.{Import, Export}, specs.Limits.Bounds, specs.Ranges.{greatest_reading, most_readings}, proofs.Callers.{less_kept, more_kept, transaction_moved}}
 use Rattle.quarter_table.{specs.Table.Table, specs.Pairs.{rows_of, rows_with, total}, proofs.Several.{made_with, one_side, both_sides}, proofs.Made.made_alike}
-use Rattle.station_ledger.{specs.declared.pairs.Way.Way, specs.declared.pairs.Way.TheVariants.{Coming, Going}, specs.Quarters.{HasRoom, HoldsBoth, IsTableMoved, both_length, both_quartered, quartered}, specs.Runs.by_way, specs.Sums.{AreAllowed, AreQuarterRows}, proofs.Bounded.{few_up, few_down, few_pairs}, proofs.Rows.{long, rows_less, up_append, down_append, up_quartered, down_quartered}}
+use Rattle.station_ledger.{specs.declared.pairs.Way.Way, specs.declared.pairs.Way.TheVariants.{Coming, Going}, specs.Quarters.{HasRoom, HoldsBoth, IsTableMoved, both_length, both_quartered, quartered}, specs.Runs.by_way, specs.Sums.{AreAllowed, AreQuarterRows}, proofs.Bounded.{few_energy, few_pairs, few_station, IsUpTo, IsWithin}, proofs.Rows.{long, rows_less, up_append, down_append, up_quartered, down_quartered}}
 
 -- The pairs of a direction before and after, and those of one transaction.
 pub record IsTraded (d : Direction) (tx : List ℕ) (es new : List Entry) (gone came kept : List Pair) : Type 0 where
@@ -26,7 +26,7 @@ traded Going d es new front e back one = record {
   own = λ f. sym (transaction_moved d f new es front e back one);
 }
 
-ones : (ps : List Pair) → sum_by (λ p. 1) ps ≡ length ps
+pub ones : (ps : List Pair) → sum_by (λ p. 1) ps ≡ length ps
 ones [] = refl
 ones (p ∷ ps) = omega (arith, sum_by-cons (λ (q : Pair). 1) p ps, ones ps)
 
@@ -37,24 +37,17 @@ module _ (d : Direction) {tx : List ℕ} {es new : List Entry} {gone came kept :
   pub station_exchanged : plus (energy d new) less ≡ plus (energy d es) more
   station_exchanged =
       let f = λ (p : Pair). (difference p).up in let g = λ (p : Pair). (difference p).down in
-      let up : (energy d new).up + less.up ≡ (energy d es).up + more.up =
-      omega (arith, traded.old_sum f, traded.new_sum f, sum_by-append f gone kept, sum_by-append f came kept, ap (λ (e : Energy). e.up) less_is, ap (λ (e : Energy). e.up) more_is) in
-      let down : (energy d new).down + less.down ≡ (energy d es).down + more.down =
-      omega (arith, traded.old_sum g, traded.new_sum g, sum_by-append g gone kept, sum_by-append g came kept, ap (λ (e : Energy). e.down) less_is, ap (λ (e : Energy). e.down) more_is) in
-      λ i. record { up = up i; down = down i }
+      same_energy _ _
+      (omega (arith, traded.old_sum f, traded.new_sum f, sum_by-append f gone kept, sum_by-append f came kept, ap (λ (e : Energy). e.up) less_is, ap (λ (e : Energy). e.up) more_is))
+      (omega (arith, traded.old_sum g, traded.new_sum g, sum_by-append g gone kept, sum_by-append g came kept, ap (λ (e : Energy). e.down) less_is, ap (λ (e : Energy). e.down) more_is))
 
   pub own_exchanged : plus (energy_of d tx new) less ≡ plus (energy_of d tx es) more
-  own_exchanged =
-      let up : (energy_of d tx new).up + less.up ≡ (energy_of d tx es).up + more.up =
-      omega (arith, traded.own (λ p. (difference p).up), ap (λ (e : Energy). e.up) less_is, ap (λ (e : Energy). e.up) more_is) in
-      let down : (energy_of d tx new).down + less.down ≡ (energy_of d tx es).down + more.down =
-      omega (arith, traded.own (λ p. (difference p).down), ap (λ (e : Energy). e.down) less_is, ap (λ (e : Energy). e.down) more_is) in
-      λ i. record { up = up i; down = down i }
+  own_exchanged = same_energy _ _ (omega (arith, traded.own (λ p. (difference p).up), ap (λ (e : Energy). e.up) less_is, ap (λ (e : Energy). e.up) more_is))
+      (omega (arith, traded.own (λ p. (difference p).down), ap (λ (e : Energy). e.down) less_is, ap (λ (e : Energy). e.down) more_is))
 
 -- what goes is in an energy of the station with what comes
 module _ (order : Order) (d : Direction) (limits : Bounds) (es : List Entry) (before : AreAllowed order limits es)
-    {flow was : Energy} (is less more : Energy) (flow_is : flow ≡ was) (up_le : was.up ≤ (energy_by order d es).up)
-    (down_le : was.down ≤ (energy_by order d es).down)
+    {flow was : Energy} (is less more : Energy) (flow_is : flow ≡ was) (most : IsWithin was (energy_by order d es))
     (exchanged : plus is less ≡ plus was more) (up_few : more.up ≤ greatest_reading * most_readings) (down_few : more.down ≤ greatest_reading * most_readings) where
   up_was : flow.up ≡ was.up
   up_was = ap (λ (e : Energy). e.up) flow_is
@@ -68,53 +61,26 @@ module _ (order : Order) (d : Direction) (limits : Bounds) (es : List Entry) (be
   downs : is.down + less.down ≡ was.down + more.down
   downs = ap (λ (e : Energy). e.down) exchanged
 
-  pub may_exchange : CanPlus flow more × CanMinus (plus flow more) less
-  may_exchange = (
-    record {
-      up = omega (arith, up_was, up_le, few_up order d limits es before, before.most_readings_within, up_few);
-      down = omega (arith, down_was, down_le, few_down order d limits es before, before.most_readings_within, down_few);
-    },
-    record { up = omega (arith, up_was, ups); down = omega (arith, down_was, downs) },
-  )
-
-  pub is_left : minus (plus flow more) less ≡ is
-  is_left =
-      let up : (flow.up + more.up) - less.up ≡ is.up = omega (arith, up_was, ups) in
-      let down : (flow.down + more.down) - less.down ≡ is.down = omega (arith, down_was, downs) in
-      λ i. record { up = up i; down = down i }
+  pub exchanged_once : (CanPlus flow more × CanMinus (plus flow more) less) × (minus (plus flow more) less ≡ is)
+  exchanged_once =
+      let few = few_station order d limits es before in (
+        (
+          record { up = omega (arith, up_was, most.up, few.up, up_few); down = omega (arith, down_was, most.down, few.down, down_few) },
+          record { up = omega (arith, up_was, ups); down = omega (arith, down_was, downs) },
+        ),
+        same_energy _ _ (omega (arith, up_was, ups)) (omega (arith, down_was, downs)),
+      )
 
 -- pairs of both directions add up in each as those of that direction
 up_both : (k : Direction) (period : Periods) (ps : Direction → List Pair) → (in_direction k (total (both_quartered period ps))).up ≡ (energy_over (ps k)).up
-up_both Import period ps =
-    omega (
-      arith,
-      up_append Import (quartered period Import (ps Import)) (quartered period Export (ps Export)),
-      up_quartered Import period Import (ps Import),
-      up_quartered Import period Export (ps Export),
-    )
-up_both Export period ps =
-    omega (
-      arith,
-      up_append Export (quartered period Import (ps Import)) (quartered period Export (ps Export)),
-      up_quartered Export period Import (ps Import),
-      up_quartered Export period Export (ps Export),
-    )
+up_both k period ps =
+    let both = up_append k (quartered period Import (ps Import)) (quartered period Export (ps Export)) in
+    grind (arith, both, up_quartered k period Import (ps Import), up_quartered k period Export (ps Export))
 
 down_both : (k : Direction) (period : Periods) (ps : Direction → List Pair) → (in_direction k (total (both_quartered period ps))).down ≡ (energy_over (ps k)).down
-down_both Import period ps =
-    omega (
-      arith,
-      down_append Import (quartered period Import (ps Import)) (quartered period Export (ps Export)),
-      down_quartered Import period Import (ps Import),
-      down_quartered Import period Export (ps Export),
-    )
-down_both Export period ps =
-    omega (
-      arith,
-      down_append Export (quartered period Import (ps Import)) (quartered period Export (ps Export)),
-      down_quartered Export period Import (ps Import),
-      down_quartered Export period Export (ps Export),
-    )
+down_both k period ps =
+    let both = down_append k (quartered period Import (ps Import)) (quartered period Export (ps Export)) in
+    grind (arith, both, down_quartered k period Import (ps Import), down_quartered k period Export (ps Export))
 
 -- pairs of both directions that add up as those that go or come and those that are kept
 parted : (period : Periods) (all some rest : Direction → List Pair)
@@ -133,11 +99,10 @@ module _ (limits : Bounds) (tx : List ℕ) (es new : List Entry) (gone came kept
   count : (d : Direction) → length (pairs d new) ≡ length (came d) + length (kept d)
   count d = sym (ones (pairs d new)) ∙ (traded d).new_sum (λ p. 1) ∙ ones (came d ++ kept d) ∙ length-append (came d) (kept d)
 
-  kept_up : (d : Direction) → (energy_over (kept d)).up ≤ greatest_reading * limits.readings
-  kept_up d = let f = λ (p : Pair). (difference p).up in omega (arith, (traded d).old_sum f, sum_by-append f (gone d) (kept d), few_up Sequence d limits es before)
-
-  kept_down : (d : Direction) → (energy_over (kept d)).down ≤ greatest_reading * limits.readings
-  kept_down d = let f = λ (p : Pair). (difference p).down in omega (arith, (traded d).old_sum f, sum_by-append f (gone d) (kept d), few_down Sequence d limits es before)
+  kept_few : (d : Direction) → IsUpTo (greatest_reading * limits.readings) (energy_over (kept d))
+  kept_few d =
+      let f = λ (p : Pair). (difference p).up in let g = λ (p : Pair). (difference p).down in let few = few_energy Sequence d limits es before in
+      record { up = omega (arith, (traded d).old_sum f, sum_by-append f (gone d) (kept d), few.up); down = omega (arith, (traded d).old_sum g, sum_by-append g (gone d) (kept d), few.down) }
 
   module _ (period : Periods) (t : Table) (rows : AreQuarterRows Sequence limits es period t) where
     old_rows : t.rows ≡ rows_of (both_quartered period gone ++ both_quartered period kept)
@@ -156,20 +121,11 @@ module _ (limits : Bounds) (tx : List ℕ) (es new : List Entry) (gone came kept
             both_quartered period kept,
             record {
               rows = left_rows;
-              room = omega (
-                arith,
-                n,
-                long period Import (kept Import),
-                long period Export (kept Export),
-                count Import,
-                count Export,
-                few_pairs Sequence new,
-                after.readings_within,
-                taken.capacity,
-                rows.room,
-              );
-              up = λ k. omega (arith, up_both k period kept, kept_up k, before.most_readings_within, few);
-              down = λ k. omega (arith, down_both k period kept, kept_down k, before.most_readings_within, few);
+              room =
+                  let long_import = long period Import (kept Import) in let long_export = long period Export (kept Export) in
+                  omega (arith, n, long_import, long_export, count Import, count Export, few_pairs Sequence new, after.readings_within, taken.capacity, rows.room);
+              up = λ k. omega (arith, up_both k period kept, (kept_few k).up, before.most_readings_within, few);
+              down = λ k. omega (arith, down_both k period kept, (kept_few k).down, before.most_readings_within, few);
               few = omega (arith, taken.capacity, rows.room, before.most_readings_within);
             },
           )

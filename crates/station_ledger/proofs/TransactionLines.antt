@@ -1,9 +1,9 @@
 -- The lines of the transactions from what is kept of each.
-use Rattle.std.{proofs.Common.{◌≡◌, ℕ, zero, suc, ◌+◌, ◌-◌, ◌<◌, ◌||◌, true, false, cond, T, List, [], ◌∷◌, ◌++◌, Some, is_some, unwrap_or, length, map, take, slice_get, refl, sym, ap, subst, ◌∙◌, arith}, specs.List.{AllByRecursion, filter, list_any}, specs.List.Sorted.IsStrictlySortedBy, specs.Str.bytes_eq, specs.Ordering.{eq_by_cmp, is_lt}, specs.declared.cmp.Ordering.TheVariants.Less, specs.FinMap.find, specs.FinMap.Entries.below_all, proofs.lemmas.List.map_more, proofs.lemmas.Option.{get_or_from_slice_get, slice_get_within}, proofs.lemmas.Slice.Eq.bytes_eq-Decides}
+use Rattle.std.{proofs.lemmas.Bool.Decides.nat_tests, proofs.Common.{◌≡◌, ℕ, zero, suc, ◌+◌, ◌-◌, ◌<◌, true, T, List, [], ◌∷◌, ◌++◌, Some, is_some, unwrap_or, length, map, take, slice_get, refl, sym, ap, subst, ◌∙◌, arith}, specs.List.{AllByRecursion, filter, list_any}, specs.List.Sorted.IsStrictlySortedBy, specs.Str.bytes_eq, specs.Ordering.{eq_by_cmp, is_lt}, specs.declared.cmp.Ordering.TheVariants.Less, specs.FinMap.find, specs.FinMap.Entries.below_all, proofs.lemmas.List.map_more, proofs.lemmas.Option.{get_or_from_slice_get, slice_get_within}, proofs.lemmas.Slice.Eq.bytes_eq-Decides}
 use Rattle.event_chain.specs.Chains.{Chained, stored}
 use Rattle.ledger_model.{specs.Board.last_or_zero, specs.Content.{Entry, live, transactions_of, has_transaction}, specs.declared.order.Order.Order, specs.Energy.flows_of_by, specs.Evse.first_or_zero, specs.Limits.Bounds, proofs.Rising.both, proofs.TransactionLemmas.{transactions-any, transactions_rise}}
 use Rattle.transaction_map.{specs.Map.{Mapped, AreRising, id_cmp}, proofs.Found.same_ids, proofs.Rising.{equal_ids, same_id}}
-use Rattle.station_ledger.{specs.declared.standing.Standing.Standing, specs.Standing.{kept_of, standing_by}, specs.Sums.AreStanding, proofs.EndNumbers.{kept_some, kept_none}, proofs.Moved.none_live}
+use Rattle.station_ledger.{specs.declared.standing.Standing.Standing, specs.Standing.{kept_of, standing_by}, specs.Sums.AreStanding, proofs.EndNumbers.{kept_some}, proofs.Moved.none_live}
 
 -- ids with nothing else
 abbrev bare : List (List ℕ) → List (List ℕ × Unit {0})
@@ -24,42 +24,26 @@ bare_rise (t ∷ ts) h = both _ _ (bare_below t ts h.0) (bare_rise ts h.1)
 
 -- both tests distinguish ids
 same_test : (q t : List ℕ) → eq_by_cmp id_cmp q t ≡ bytes_eq q t
-same_test q t = elim (eq_by_cmp id_cmp q t) as (λ b. eq_by_cmp id_cmp q t ≡ b → b ≡ bytes_eq q t) [
-  | true ↦ λ e. sym ((bytes_eq-Decides q t).1 (equal_ids q t e))
-  | false ↦ λ e. sym (elim (bytes_eq q t) as (λ b. bytes_eq q t ≡ b → b ≡ false) [
-    | true ↦ λ h. let f : false ≡ true = sym e ∙ ap (λ u. eq_by_cmp id_cmp u t) ((bytes_eq-Decides q t).0 h) ∙ same_id t in cc
-    | false ↦ λ _. refl
-  ] refl)
-] refl
+same_test q t = grind (arith, bytes_eq-Decides q t, equal_ids q t, same_id t)
 
 bare_found : (q : List ℕ) (ts : List (List ℕ)) → is_some (find id_cmp q (bare ts)) ≡ list_any (bytes_eq q) ts
 bare_found q [] = refl
-bare_found q (t ∷ ts) =
-    (elim (eq_by_cmp id_cmp q t) as (λ b. is_some (cond b (Some tt) (find id_cmp q (bare ts))) ≡ (b || list_any (bytes_eq q) ts)) [ true ↦ refl | false ↦ bare_found q ts ])
-    ∙ ap (λ b. b || list_any (bytes_eq q) ts) (same_test q t)
+bare_found q (t ∷ ts) = grind (arith, bare_found q ts, same_test q t)
 
 -- a transaction with an event has some
 some_own : (tx : List ℕ) (es : List Entry) → has_transaction tx es ≡ true → 0 < length (filter (λ (e : Entry). bytes_eq tx e.0.tx) es)
 some_own tx [] h = cc
-some_own tx (e ∷ es) h =
-    elim (bytes_eq tx e.0.tx) as (λ b. (b || has_transaction tx es) ≡ true
-    → 0 < length (cond b (e ∷ filter (λ (f : Entry). bytes_eq tx f.0.tx) es) (filter (λ (f : Entry). bytes_eq tx f.0.tx) es))) [
-      | true ↦ λ _. omega arith
-      | false ↦ λ rest. some_own tx es rest
-    ] h
+some_own tx (e ∷ es) h = grind (arith, some_own tx es, h)
 
 -- it is kept just where it has a live event
 kept_has : (order : Order) (tx : List ℕ) (es : List Entry) → is_some (kept_of order tx es) ≡ has_transaction tx (live es)
-kept_has order tx es = elim (has_transaction tx (live es)) as (λ b. has_transaction tx (live es) ≡ b → is_some (kept_of order tx es) ≡ b) [
-  | true ↦ λ e. ap is_some (sym (kept_some (flows_of_by order tx es) tx es (some_own tx (live es) e)))
-  | false ↦ λ e. ap is_some (sym (kept_none (flows_of_by order tx es) tx es (ap length (none_live tx es e))))
-] refl
+kept_has order tx es = grind (arith, nat_tests, some_own tx (live es), none_live tx es)
 
 -- an id at a place is one of them
 is_any : (ts : List (List ℕ)) (n : ℕ) (tx : List ℕ) → slice_get ts n ≡ Some tx → list_any (bytes_eq tx) ts ≡ true
 is_any [] n tx h = cc
-is_any (t ∷ ts) zero tx h = let same : t ≡ tx = cc in ap (λ b. b || list_any (bytes_eq tx) ts) ((bytes_eq-Decides tx t).1 (sym same))
-is_any (t ∷ ts) (suc n) tx h = elim (bytes_eq tx t) as (λ b. (b || list_any (bytes_eq tx) ts) ≡ true) [ true ↦ refl | false ↦ is_any ts n tx h ]
+is_any (t ∷ ts) zero tx h = grind (arith, bytes_eq-Decides tx t, h)
+is_any (t ∷ ts) (suc n) tx h = grind (arith, is_any ts n tx h)
 
 module _ (order : Order) (limits : Bounds) (c : Chained) (kept : Mapped Standing) (standing : AreStanding order limits (stored c) kept) where
   -- the ids that are kept are those of the transactions with a live event
@@ -89,6 +73,4 @@ first_is_or (n ∷ ns) = refl
 pub last_is_or : (ns : List ℕ) → unwrap_or (slice_get ns (length ns - 1)) 0 ≡ last_or_zero ns
 last_is_or [] = refl
 last_is_or (n ∷ []) = refl
-last_is_or (n ∷ m ∷ ns) =
-    let at : length (n ∷ m ∷ ns) - 1 ≡ suc (length (m ∷ ns) - 1) = omega arith in
-    ap (λ k. unwrap_or (slice_get (n ∷ m ∷ ns) k) 0) at ∙ last_is_or (m ∷ ns)
+last_is_or (n ∷ m ∷ ns) = let at : length (n ∷ m ∷ ns) - 1 ≡ suc (length (m ∷ ns) - 1) = omega arith in ap (λ k. unwrap_or (slice_get (n ∷ m ∷ ns) k) 0) at ∙ last_is_or (m ∷ ns)

@@ -1,16 +1,13 @@
 -- Pairs along readings, one reading after the other.
-use Rattle.std.{proofs.Common.{◌≡◌, ℕ, ◌+◌, ◌*◌, ◌≤◌, true, false, cond, List, [], ◌∷◌, ◌++◌, length, drop, get_or, refl, sym, ap, ◌∙◌, arith, length-append}, proofs.lemmas.List.{map-append, append_assoc}, proofs.lemmas.List.Sums.sum_by-append}
+use Rattle.std.{proofs.Common.{◌≡◌, ℕ, ◌+◌, ◌*◌, ◌<◌, ◌≤◌, List, [], ◌∷◌, ◌++◌, length, drop, get_or, refl, sym, ap, ◌∙◌, arith, length-append}, proofs.lemmas.List.{map-append, append_assoc}, proofs.lemmas.List.Sums.sum_by-append}
 use Rattle.energy_flow.specs.Flow.{Energy, plus}
-use Rattle.ledger_model.{specs.Periods.Periods, specs.Board.Flowed, specs.Energy.{Pair, difference, energy_over, quarter_of}, specs.ByDirection.flows_toward, specs.declared.reading.Direction.Direction, specs.declared.reading.Direction.TheVariants.{Import, Export}, specs.Event.{MeterReading, same_direction, toward}, specs.Ranges.greatest_reading}
+use Rattle.ledger_model.{proofs.EnergyLemmas.same_energy, specs.Periods.Periods, specs.Board.Flowed, specs.Energy.{Pair, difference, energy_over, quarter_of}, specs.ByDirection.flows_toward, specs.declared.reading.Direction.Direction, specs.Event.{MeterReading, toward}, specs.Ranges.greatest_reading}
 use Rattle.quarter_table.{specs.declared.row.QuarterRow.QuarterRow, specs.Rows.{row_at, set_row, without_pair}, specs.Pairs.{rows_of, rows_without}, specs.Table.Table, proofs.Several.rows_with-append}
 use Rattle.station_ledger.{specs.declared.pairs.Way.Way, specs.declared.pairs.Way.TheVariants.{Coming, Going}, specs.Quarters.{DidMove, MayMove, quartered, rows_moved}, proofs.Rows.{room_fewer, rows_more, rows_less}}
 
 -- the pairs of several more readings add up
 pub energy_over-append : (ps qs : List Pair) → energy_over (ps ++ qs) ≡ plus (energy_over ps) (energy_over qs)
-energy_over-append ps qs =
-    let up = sum_by-append (λ p. (difference p).up) ps qs in
-    let down = sum_by-append (λ p. (difference p).down) ps qs in
-    λ i. record { up = up i; down = down i }
+energy_over-append ps qs = same_energy _ _ (sum_by-append (λ p. (difference p).up) ps qs) (sum_by-append (λ p. (difference p).down) ps qs)
 
 pub quartered-append : (period : Periods) (d : Direction) (ps qs : List Pair) → quartered period d (ps ++ qs) ≡ quartered period d ps ++ quartered period d qs
 quartered-append period d ps qs = map-append (λ p. (quarter_of period p, flows_toward d (difference p))) ps qs
@@ -19,33 +16,23 @@ pub rows_without-append : (fs gs : List Flowed) (rows : List QuarterRow) → row
 rows_without-append [] gs rows = refl
 rows_without-append (f ∷ fs) gs rows = rows_without-append fs gs (set_row (without_pair f.1 (row_at f.0 rows)) rows)
 
--- readings with a first one
-pub parted : (left rest : List MeterReading) (r d : MeterReading) → 1 ≤ length left → r ≡ get_or left 0 d → rest ≡ drop 1 left → left ≡ r ∷ rest
-parted [] rest r d some is after = absurd (omega (arith, some))
-parted (x ∷ left) rest r d some is after = λ i. sym is i ∷ sym after i
-
--- the same of any elements
+-- elements with a first one
 pub first_and_rest : {X : Type 0} (left rest : List X) (r d : X) → 1 ≤ length left → r ≡ get_or left 0 d → rest ≡ drop 1 left → left ≡ r ∷ rest
 first_and_rest [] rest r d some is after = absurd (omega (arith, some))
 first_and_rest (x ∷ left) rest r d some is after = λ i. sym is i ∷ sym after i
 
-same_self : (d : Direction) → same_direction d d ≡ true
-same_self Import = refl
-same_self Export = refl
-
-not_same : (d e : Direction) → (e ≡ d → ⊥) → same_direction d e ≡ false
-not_same Import Import other = absurd (other refl)
-not_same Import Export other = refl
-not_same Export Import other = refl
-not_same Export Export other = absurd (other refl)
+-- or with none
+pub empty : {X : Type 0} (xs : List X) → length xs < 1 → xs ≡ []
+empty [] h = refl
+empty (x ∷ xs) h = absurd (omega (arith, h))
 
 -- those of the direction of the first one
 pub toward_first : (d : Direction) (left rest : List MeterReading) (r : MeterReading) → left ≡ r ∷ rest → r.direction ≡ d → toward d left ≡ r ∷ toward d rest
-toward_first d left rest r is same = ap (toward d) is ∙ ap (λ b. cond b (r ∷ toward d rest) (toward d rest)) (ap (same_direction d) same ∙ same_self d)
+toward_first d left rest r is same = ap (toward d) is ∙ grind (arith, same)
 
 -- those of another direction
 pub toward_rest : (d : Direction) (left rest : List MeterReading) (r : MeterReading) → left ≡ r ∷ rest → (r.direction ≡ d → ⊥) → toward d left ≡ toward d rest
-toward_rest d left rest r is other = ap (toward d) is ∙ ap (λ b. cond b (r ∷ toward d rest) (toward d rest)) (not_same d r.direction other)
+toward_rest d left rest r is other = ap (toward d) is ∙ grind (arith, other)
 
 -- Pairs of a direction that come or go one after the other, while some are left.
 pub record IsMoving (way : Way) (period : Periods) (d : Direction) (ps left : List Pair) (old t : Table) (before work : ℕ) (sum : Energy) : Type 0 where
@@ -66,10 +53,8 @@ energy_is : {left : List Pair} (one more : List Pair) (sum flow next : Energy) �
     → next ≡ plus sum flow → plus next (energy_over more) ≡ plus sum (energy_over left)
 energy_is {left = left} one more sum flow next split is put =
     let all = ap energy_over split ∙ energy_over-append one more in
-    let up : (plus next (energy_over more)).up ≡ (plus sum (energy_over left)).up = omega (arith, ap (λ (e : Energy). e.up) all, ap (λ (e : Energy). e.up) is, ap (λ (e : Energy). e.up) put) in
-    let down : (plus next (energy_over more)).down ≡ (plus sum (energy_over left)).down =
-    omega (arith, ap (λ (e : Energy). e.down) all, ap (λ (e : Energy). e.down) is, ap (λ (e : Energy). e.down) put) in
-    λ i. record { up = up i; down = down i }
+    same_energy _ _ (omega (arith, ap (λ (e : Energy). e.up) all, ap (λ (e : Energy). e.up) is, ap (λ (e : Energy). e.up) put))
+    (omega (arith, ap (λ (e : Energy). e.down) all, ap (λ (e : Energy). e.down) is, ap (λ (e : Energy). e.down) put))
 
 quartered_is : (period : Periods) (d : Direction) {left : List Pair} (one more : List Pair) → left ≡ one ++ more → quartered period d left ≡ quartered period d one ++ quartered period d more
 quartered_is period d one more split = ap (quartered period d) split ∙ quartered-append period d one more

@@ -1,85 +1,71 @@
-use Rattle.std.proofs.Common.{length, refl, sym, ◌≤◌, ◌∙◌}
-use Rattle.ledger_model.specs.Ranges.{most_readings}
-use Rattle.station_ledger.{specs.Quarters.HoldsPairs, specs.Runs.{run_pairs, AreSwapped, HasRoomWithout}, proofs.MomentRuns.{at_turn, none_left, turn_few, turn_held, turn_less, turn_more, turn_next, turn_of, turn_room, turn_smaller, turning_by, turning_end, turning_start, turning_work}}
+use Rattle.std.proofs.Common.{ℕ, List, length, refl, sym, ◌≤◌, ◌∙◌}
+use Rattle.ledger_model.{specs.Board.Flowed, specs.Ranges.most_readings}
+use Rattle.reading_index.specs.Timed.{owned}
+use Rattle.station_ledger.{specs.Quarters.HoldsPairs, specs.Runs.{run_pairs, came_of, gap_of, gone_of, AreSwapped, AreToMove, HasRoomWithout}, proofs.Walks.empty, proofs.MomentRuns.{at_turn, turn_few, turn_held, turn_less, turn_more, turn_next, turn_of, turn_room, turn_smaller, turning_by, turning_end, turning_start, turning_work, IsTurn}, proofs.by_moment.replace_runs.Goals.{After-split_at, After-replace_run-moved}}
 use Rattle.station_ledger.proofs.by_moment.replace_runs.Goals as goal
 
 pub loop-left-init : goal.loop-left-init
-loop-left-init c = record { moving = λ o seq rest a. turning_start c.args.way c.zero-less.ensures c.zero-more.ensures a; capacity = refl }
+loop-left-init c = record { moving = λ o seq rest a. turning_by c.zero-less.ensures c.zero-more.ensures (turning_start c.args.way a); capacity = refl }
+
+-- the turn of an iteration
+turn : (c : After-split_at) {o seq : ℕ} {rest : List Flowed} → AreToMove c.args.way o seq c.args.period c.args.direction c.args.readings.now c.args.index.now c.args.quarters.now rest
+    → IsTurn (owned o c.args.index.now.entries) c.loop-left.left.now c.split_at.result.0.now c.split_at.result.1.now c.around-before.result.0 c.around-before.result.1
+turn c {o} {seq} {rest} a =
+    let h = c.loop-left.invariant.moving o seq rest a in
+    turn_of o c.count_in_front-count.result c.args.index.now.entries h.done a.owned_by h.split c.in-len1-up.len_at_least c.first-item.is c.around-before.ensures.before
+    c.around-before.ensures.behind c.count_in_front-count.ensures.run c.count_in_front-count.ensures.rest c.split_at.ensures.front c.split_at.ensures.back
+
+-- what it does to the rows
+swapped : (c : After-replace_run-moved) → AreSwapped c.args.period c.args.direction (run_pairs (gap_of c.around-before.result.0 c.around-before.result.1) (gone_of c.args.way c.split_at.result.0.now))
+    (run_pairs (gap_of c.around-before.result.0 c.around-before.result.1) (came_of c.args.way c.split_at.result.0.now)) c.loop-left.quarters c.replace_run-moved.new.quarters
+    c.loop-left.work c.replace_run-moved.new.work c.replace_run-moved.result
+swapped c = at_turn (λ g x y. AreSwapped c.args.period c.args.direction (run_pairs g x) (run_pairs g y) c.loop-left.quarters c.replace_run-moved.new.quarters c.loop-left.work
+    c.replace_run-moved.new.work c.replace_run-moved.result) c.gap_of-gap.ensures c.parts.ensures.gone c.parts.ensures.came c.replace_run-moved.ensures
 
 pub replace_run-moved-requires-clause-holds : goal.replace_run-moved-requires-clause-holds
 replace_run-moved-requires-clause-holds c =
-    let a = c.requires.3 in let h = c.loop-left.invariant.moving c.requires.0 c.requires.1 c.requires.2 a in
-    let turn = turn_of c.requires.0 c.count_in_front-count.result c.args.index.now.entries h.done a.owned_by h.split
-    c.in-len1-up.len_at_least c.first-item.is c.around-before.ensures.before c.around-before.ensures.behind
-    c.count_in_front-count.ensures.run c.count_in_front-count.ensures.rest c.split_at.ensures.front c.split_at.ensures.back in
-    at_turn (λ g x y. HoldsPairs c.args.period c.args.direction (run_pairs g x) c.loop-left.quarters) (sym c.gap_of-gap.ensures)
-    (sym c.parts.ensures.gone) (sym c.parts.ensures.came) (turn_held turn a c.loop-left.invariant.capacity refl h)
+    let a = c.requires.3 in let h = c.loop-left.invariant.moving _ _ _ a in
+    at_turn (λ g x y. HoldsPairs c.args.period c.args.direction (run_pairs g x) c.loop-left.quarters) (sym c.gap_of-gap.ensures) (sym c.parts.ensures.gone) (sym c.parts.ensures.came)
+    (turn_held (turn (goal.at.replace_run-moved-requires-clause-holds c).After-split_at a) a c.loop-left.invariant.capacity refl h)
 
 pub replace_run-moved-requires-clause-few : goal.replace_run-moved-requires-clause-few
 replace_run-moved-requires-clause-few c =
-    let a = c.requires.3 in let h = c.loop-left.invariant.moving c.requires.0 c.requires.1 c.requires.2 a in
-    let turn = turn_of c.requires.0 c.count_in_front-count.result c.args.index.now.entries h.done a.owned_by h.split
-    c.in-len1-up.len_at_least c.first-item.is c.around-before.ensures.before c.around-before.ensures.behind
-    c.count_in_front-count.ensures.run c.count_in_front-count.ensures.rest c.split_at.ensures.front c.split_at.ensures.back in
-    at_turn (λ g x y. length (run_pairs g x) ≤ most_readings) (sym c.gap_of-gap.ensures) (sym c.parts.ensures.gone) (sym c.parts.ensures.came) (turn_few turn a c.loop-left.invariant.capacity refl h)
+    let a = c.requires.3 in let h = c.loop-left.invariant.moving _ _ _ a in
+    at_turn (λ g x y. length (run_pairs g x) ≤ most_readings) (sym c.gap_of-gap.ensures) (sym c.parts.ensures.gone) (sym c.parts.ensures.came)
+    (turn_few (turn (goal.at.replace_run-moved-requires-clause-few c).After-split_at a) a c.loop-left.invariant.capacity refl h)
 
 pub replace_run-moved-requires-clause-room : goal.replace_run-moved-requires-clause-room
 replace_run-moved-requires-clause-room c =
-    let a = c.requires.3 in let h = c.loop-left.invariant.moving c.requires.0 c.requires.1 c.requires.2 a in
-    let turn = turn_of c.requires.0 c.count_in_front-count.result c.args.index.now.entries h.done a.owned_by h.split
-    c.in-len1-up.len_at_least c.first-item.is c.around-before.ensures.before c.around-before.ensures.behind
-    c.count_in_front-count.ensures.run c.count_in_front-count.ensures.rest c.split_at.ensures.front c.split_at.ensures.back in
-    at_turn (λ g x y. HasRoomWithout c.args.period c.args.direction (run_pairs g x) (length (run_pairs g y)) c.loop-left.quarters)
-    (sym c.gap_of-gap.ensures) (sym c.parts.ensures.gone) (sym c.parts.ensures.came)
-    (turn_room turn a c.loop-left.invariant.capacity refl h)
+    let a = c.requires.3 in let h = c.loop-left.invariant.moving _ _ _ a in
+    at_turn (λ g x y. HasRoomWithout c.args.period c.args.direction (run_pairs g x) (length (run_pairs g y)) c.loop-left.quarters) (sym c.gap_of-gap.ensures) (sym c.parts.ensures.gone)
+    (sym c.parts.ensures.came) (turn_room (turn (goal.at.replace_run-moved-requires-clause-room c).After-split_at a) a c.loop-left.invariant.capacity refl h)
 
 pub plus-less-requires : goal.plus-less-requires
 plus-less-requires c =
-    let a = c.requires.3 in let h = c.loop-left.invariant.moving c.requires.0 c.requires.1 c.requires.2 a in
-    let turn = turn_of c.requires.0 c.count_in_front-count.result c.args.index.now.entries h.done a.owned_by h.split
-    c.in-len1-up.len_at_least c.first-item.is c.around-before.ensures.before c.around-before.ensures.behind
-    c.count_in_front-count.ensures.run c.count_in_front-count.ensures.rest c.split_at.ensures.front c.split_at.ensures.back in
-    let s = at_turn (λ g x y. AreSwapped c.args.period c.args.direction (run_pairs g x) (run_pairs g y) c.loop-left.quarters
-    c.replace_run-moved.new.quarters c.loop-left.work c.replace_run-moved.new.work c.replace_run-moved.result)
-    c.gap_of-gap.ensures c.parts.ensures.gone c.parts.ensures.came c.replace_run-moved.ensures in
-    turn_less turn a c.loop-left.invariant.capacity refl h s
+    let a = c.requires.3 in let at = goal.at.plus-less-requires c in
+    turn_less (turn at.After-split_at a) a c.loop-left.invariant.capacity refl (c.loop-left.invariant.moving _ _ _ a) (swapped at.After-replace_run-moved)
 
 pub plus-more-requires : goal.plus-more-requires
 plus-more-requires c =
-    let a = c.requires.3 in let h = c.loop-left.invariant.moving c.requires.0 c.requires.1 c.requires.2 a in
-    let turn = turn_of c.requires.0 c.count_in_front-count.result c.args.index.now.entries h.done a.owned_by h.split
-    c.in-len1-up.len_at_least c.first-item.is c.around-before.ensures.before c.around-before.ensures.behind
-    c.count_in_front-count.ensures.run c.count_in_front-count.ensures.rest c.split_at.ensures.front c.split_at.ensures.back in
-    let s = at_turn (λ g x y. AreSwapped c.args.period c.args.direction (run_pairs g x) (run_pairs g y) c.loop-left.quarters
-    c.replace_run-moved.new.quarters c.loop-left.work c.replace_run-moved.new.work c.replace_run-moved.result)
-    c.gap_of-gap.ensures c.parts.ensures.gone c.parts.ensures.came c.replace_run-moved.ensures in
-    turn_more turn a c.loop-left.invariant.capacity refl h s
+    let a = c.requires.3 in let at = goal.at.plus-more-requires c in
+    turn_more (turn at.After-split_at a) a c.loop-left.invariant.capacity refl (c.loop-left.invariant.moving _ _ _ a) (swapped at.After-replace_run-moved)
 
 pub loop-left-smaller : goal.loop-left-smaller
 loop-left-smaller c =
-    let a = c.requires.3 in let h = c.loop-left.invariant.moving c.requires.0 c.requires.1 c.requires.2 a in
-    let turn = turn_of c.requires.0 c.count_in_front-count.result c.args.index.now.entries h.done a.owned_by h.split
-    c.in-len1-up.len_at_least c.first-item.is c.around-before.ensures.before c.around-before.ensures.behind
-    c.count_in_front-count.ensures.run c.count_in_front-count.ensures.rest c.split_at.ensures.front c.split_at.ensures.back in
-    turn_smaller turn a c.loop-left.invariant.capacity refl h
+    let a = c.requires.3 in
+    turn_smaller (turn (goal.at.loop-left-smaller c).After-split_at a) a c.loop-left.invariant.capacity refl (c.loop-left.invariant.moving _ _ _ a)
 
 pub loop-left-preserved : goal.loop-left-preserved
 loop-left-preserved c =
-    let s = at_turn (λ g x y. AreSwapped c.args.period c.args.direction (run_pairs g x) (run_pairs g y) c.loop-left.quarters
-    c.replace_run-moved.new.quarters c.loop-left.work c.replace_run-moved.new.work c.replace_run-moved.result)
-    c.gap_of-gap.ensures c.parts.ensures.gone c.parts.ensures.came c.replace_run-moved.ensures in
+    let at = goal.at.loop-left-preserved c in let s = swapped at.After-replace_run-moved in
     record {
-      moving = λ o seq rest a.
-          let h = c.loop-left.invariant.moving o seq rest a in
-          let turn = turn_of o c.count_in_front-count.result c.args.index.now.entries h.done a.owned_by h.split c.in-len1-up.len_at_least
-          c.first-item.is c.around-before.ensures.before c.around-before.ensures.behind c.count_in_front-count.ensures.run
-          c.count_in_front-count.ensures.rest c.split_at.ensures.front c.split_at.ensures.back in
-          turning_by c.plus-less.ensures c.plus-more.ensures (turn_next turn a c.loop-left.invariant.capacity refl h s);
+      moving = λ o seq rest a. turning_by c.plus-less.ensures c.plus-more.ensures
+          (turn_next (turn at.After-split_at a) a c.loop-left.invariant.capacity refl (c.loop-left.invariant.moving o seq rest a) s);
       capacity = s.added.quarters.capacity ∙ s.taken.quarters.capacity ∙ c.loop-left.invariant.capacity;
     }
 
 pub returns-clause-moved : goal.returns-clause-moved
 returns-clause-moved c = λ o seq rest a.
     let h = c.loop-left.invariant.moving o seq rest a in
-    let none = none_left c.loop-left.left.now c.in_default.len_below in
+    let none = empty c.loop-left.left.now c.in_default.len_below in
     record { moved = turning_end a h none; work = turning_work a h none }

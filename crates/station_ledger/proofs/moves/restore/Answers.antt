@@ -1,8 +1,8 @@
-use Rattle.std.proofs.Common.{arith}
+use Rattle.std.proofs.Common.{true, refl, arith}
 use Rattle.std.specs.FinMap as finite
 use Rattle.event_chain.specs.Chains.{stored}
 use Rattle.ledger_model.specs.ByDirection.{in_direction}
-use Rattle.station_ledger.{specs.declared.pairs.Way.TheVariants.Coming, specs.Sums.{AreTurning, order_in}, proofs.Commands.{found_voided, restored, restored_voided, some_voided, restored_spends, summed_voided}, proofs.moves.restore.Goals.After-relink}
+use Rattle.station_ledger.{specs.declared.pairs.Way.TheVariants.Coming, specs.Sums.{AreTurning, order_in}, proofs.Commands.{found, restored, restored_voided, some_voided, restored_spends, summed_voided}, proofs.moves.restore.Goals.After-relink}
 use Rattle.station_ledger.proofs.moves.restore.Goals as goal
 
 turning : (c : After-relink) → AreTurning Coming (stored c.args.chains.now) c.relink.new.self c.args.key.now c.around-place.result c.args.sums.now
@@ -16,12 +16,12 @@ turn_event-requires-clause-turns c = (stored c.args.chains.now, turning (goal.at
 pub overflow_sub-sums : goal.overflow_sub-sums
 overflow_sub-sums c =
     let old = c.args.chains.now in let key = c.args.key.now in
-    omega (arith, c.turn_event.ensures.voided, c.requires.voided, some_voided old key (found_voided (finite.get old.events key) c.requires.ready))
+    omega (arith, c.turn_event.ensures.voided, c.requires.voided, some_voided old key (found (finite.get old.events key) true c.requires.ready))
 
 pub returns-clause-done : goal.returns-clause-done
 returns-clause-done c =
     let old = c.args.chains.now in let key = c.args.key.now in
-    let less = restored_voided old c.relink.new.self key c.relink.ensures.events (found_voided (finite.get old.events key) c.requires.ready) in
+    let less = restored_voided old c.relink.new.self key (found (finite.get old.events key) true c.requires.ready) refl c.relink.ensures.events in
     record {
       limits = c.relink.ensures.limits;
       events = c.relink.ensures.events;
@@ -35,4 +35,4 @@ pub returns-clause-work : goal.returns-clause-work
 returns-clause-work c =
     let old = c.args.chains.now in let new = c.relink.new.self in let key = c.args.key.now in let e = c.relink.ensures.events in
     let work = c.turn_event.ensures.work (stored old) (turning (goal.at.returns-clause-work c).After-relink) in
-    record { bound = omega (arith, work.bound, restored_spends (order_in c.args.sums.now) old new key e (found_voided (finite.get old.events key) c.requires.ready)); grows = work.grows }
+    record { bound = omega (arith, work.bound, restored_spends (order_in c.args.sums.now) old new key e (found (finite.get old.events key) true c.requires.ready)); grows = work.grows }

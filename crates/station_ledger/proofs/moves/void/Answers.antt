@@ -1,8 +1,8 @@
-use Rattle.std.proofs.Common.{arith}
+use Rattle.std.proofs.Common.{false, refl, arith}
 use Rattle.std.specs.FinMap as finite
 use Rattle.event_chain.specs.Chains.{stored}
 use Rattle.ledger_model.specs.ByDirection.{in_direction}
-use Rattle.station_ledger.{specs.declared.pairs.Way.TheVariants.Going, specs.Sums.{AreTurning, order_in}, proofs.Commands.{found_live, voided, voided_voided_more, voided_spends, summed_voided}, proofs.moves.void.Goals.After-unlink}
+use Rattle.station_ledger.{specs.declared.pairs.Way.TheVariants.Going, specs.Sums.{AreTurning, order_in}, proofs.Commands.{found, voided, voided_voided_more, voided_spends, summed_voided}, proofs.moves.void.Goals.After-unlink}
 use Rattle.station_ledger.proofs.moves.void.Goals as goal
 
 turning : (c : After-unlink) → AreTurning Going (stored c.args.chains.now) c.unlink.new.self c.args.key.now c.around-place.result c.args.sums.now
@@ -19,7 +19,7 @@ overflow_add-sums c = let b = c.requires.before in omega (arith, c.turn_event.en
 pub returns-clause-done : goal.returns-clause-done
 returns-clause-done c =
     let old = c.args.chains.now in let key = c.args.key.now in
-    let more = voided_voided_more old c.unlink.new.self key c.unlink.ensures.events (found_live (finite.get old.events key) c.requires.ready) in
+    let more = voided_voided_more old c.unlink.new.self key (found (finite.get old.events key) false c.requires.ready) refl c.unlink.ensures.events in
     record {
       limits = c.unlink.ensures.limits;
       events = c.unlink.ensures.events;
@@ -33,4 +33,4 @@ pub returns-clause-work : goal.returns-clause-work
 returns-clause-work c =
     let old = c.args.chains.now in let new = c.unlink.new.self in let key = c.args.key.now in let e = c.unlink.ensures.events in
     let work = c.turn_event.ensures.work (stored old) (turning (goal.at.returns-clause-work c).After-unlink) in
-    record { bound = omega (arith, work.bound, voided_spends (order_in c.args.sums.now) old new key e (found_live (finite.get old.events key) c.requires.ready)); grows = work.grows }
+    record { bound = omega (arith, work.bound, voided_spends (order_in c.args.sums.now) old new key e (found (finite.get old.events key) false c.requires.ready)); grows = work.grows }

@@ -1,7 +1,7 @@
 use Rattle.std.{proofs.Common.{◌≡◌, ◌-◌, ◌∷◌, List, None, take, drop, length, map, sym, ap, ◌∙◌}, proofs.lemmas.List.take_rest}
 use Rattle.ledger_model.{specs.Deltas.pairs_between, specs.Event.MeterReading}
 use Rattle.reading_index.specs.declared.placed.PlacedReading.{PlacedReading}
-use Rattle.station_ledger.{specs.Shares.with_shares, proofs.Sharing.{empty, followed_between, none_left, stepped}, proofs.Walks.first_and_rest}
+use Rattle.station_ledger.{specs.Shares.with_shares, proofs.Sharing.{followed_between, none_left, stepped}, proofs.Walks.{empty, first_and_rest}}
 use Rattle.station_ledger.proofs.shares.share_row.Goals as goal
 
 readings : List PlacedReading → List MeterReading
