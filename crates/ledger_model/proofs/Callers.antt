@@ -9,7 +9,7 @@ pub use Rattle.ledger_model.proofs.Deliveries.{Room, room}
 pub use Rattle.ledger_model.proofs.ReachedContents.{IsCounted, is_counted}
 pub use Rattle.ledger_model.proofs.SumLemmas.{among_back, among_front, sum_by-map, sum_by-flat_map, sum_by-filter_cons, key_or_none, put_in-same, put_in-below, put_in-above, rising-AreRising, rising-IsIn}
 pub use Rattle.ledger_model.proofs.Bounds.{IsEntry, AreEntries, AreKept, AreKept-reached}
-pub use Rattle.ledger_model.proofs.FigureBounds.{few_toward, figures_within, length-in_order, live_and_voided, transactions_by_entries, missing_by_entries}
+pub use Rattle.ledger_model.proofs.FigureBounds.{few_toward, figures_within, length-in_order, live_and_voided}
 pub use Rattle.ledger_model.proofs.GapLemmas.{gaps-AreGaps}
 pub use Rattle.ledger_model.proofs.NumberLemmas.{rising_from_sorted}
 pub use Rattle.ledger_model.proofs.Splices.{followed_cut, followed_sums, few_across, few_between}

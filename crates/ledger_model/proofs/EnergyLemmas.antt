@@ -1,7 +1,7 @@
 -- The energy of a station, parted by periods, by EVSEs and by transactions.
 use Rattle.std.{proofs.Common.{◌≡◌, ◌↔◌, ℕ, ◌+◌, ◌*◌, Bool, true, false, cond, List, [], ◌∷◌, refl, ap, sym, ◌∙◌, ⊎_elim, arith, map, eqb}, proofs.lemmas.Bool.{eq-eqb, ne_eqb, cases_eq}, specs.Prelude.sum_by, specs.List.{filter, flat_map}, proofs.lemmas.List.Sums.sum_by-cons}
 use Rattle.energy_flow.specs.Flow.{Energy}
-use Rattle.ledger_model.{specs.Periods.Periods, specs.declared.order.Order.Order, specs.declared.reading.Direction.Direction, specs.declared.reading.Direction.TheVariants.{Import, Export}, specs.Content.{Entry, live, transactions_of}, specs.ByDirection.{in_each, no_flows, plus_flows}, specs.declared.by_direction.ByDirection.ByDirection, specs.Energy.{Pair, all_pairs_by, difference, flows_in_by, pairs_by, energy_by, energy_of_by, energy_in_by, parts_of_both, parts_over, quarters_by}, specs.Parts.Part, specs.Evse.{evse_of, evses, energy_at_by, transactions_at}, specs.Board.{Flowed, board_by, flows_under}, specs.BoardLaws.{AreRising, IsIn, sum_of_energies}, proofs.PartLemmas.{parts_down, parts_up}, proofs.SumLemmas.{among_back, among_front, sum_by_among, sum_by_rising, sum_by-flat_map, sum_by-same, sum_by-map, sum_by-times, times, times-among_sum, rising-AreRising, rising-IsIn}}
+use Rattle.ledger_model.{specs.Periods.Periods, specs.declared.order.Order.Order, specs.declared.reading.Direction.Direction, specs.declared.reading.Direction.TheVariants.{Import, Export}, specs.Content.{Entry, live, transactions_of}, specs.ByDirection.{in_each, no_flows, plus_flows}, specs.declared.by_direction.ByDirection.ByDirection, specs.Energy.{Pair, all_pairs_by, difference, flows_in_by, pairs_by, energy_by, energy_of_by, energy_in_by, parts_of_both, parts_over, quarters_by}, specs.Parts.Part, specs.Evse.{evse_of, evses, energy_at_by, transactions_at}, specs.Board.{Flowed, board_by, flows_under}, specs.BoardLaws.{AreRising, IsIn, sum_of_energies}, proofs.PartLemmas.{parts_down, parts_up}, proofs.SumLemmas.{among_back, among_front, sum_by_among, sum_by_rising, sum_by-flat_map, sum_by-same, sum_by-map, sum_by-count, times, times-among_sum, rising-AreRising, rising-IsIn}}
 
 sum_of-up : {X : Type 0} (e : X → Energy) (xs : List X) → (sum_of_energies (map e xs)).up ≡ sum_by (λ x. (e x).up) xs
 sum_of-up e [] = refl
@@ -64,7 +64,7 @@ taken_at g q k = ⊎_elim
 
 -- one line for each number of a list
 lines_sum : (g : ℕ → ℕ) (q : ℕ) (ks : List ℕ) → sum_by (λ k. cond (eqb k q) (g k) 0) ks ≡ times q ks * g q
-lines_sum g q ks = sum_by-same _ _ (taken_at g q) ks ∙ sum_by-times q (g q) ks
+lines_sum g q ks = sum_by-same _ _ (taken_at g q) ks ∙ sum_by-count (eqb q) (g q) ks
 
 -- a measure of energies that adds up
 module _ (measure : ByDirection Energy → ℕ) (none : measure no_flows ≡ 0) (both : (a b : ByDirection Energy) → measure (plus_flows a b) ≡ measure a + measure b) where

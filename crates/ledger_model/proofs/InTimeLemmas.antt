@@ -1,6 +1,6 @@
 -- Lists in the order of moments.
 use Rattle.std.{proofs.Common.{◌≡◌, ℕ, ◌+◌, ◌<◌, ◌≤◌, ◌⊎◌, Bool, true, false, cond, List, [], ◌∷◌, ◌++◌, refl, sym, ap, subst, ◌∙◌, ⊎_elim, map, nat_lt, eqb, arith}, specs.List.{filter, sum_by}, proofs.lemmas.Bool.{lt-ltb, le-ltb, cases_lt, cases_eq, cases_order, eq-eqb, ne_eqb}, proofs.lemmas.List.Sums.sum_by-cons}
-use Rattle.ledger_model.specs.InTime.{put_in_time, in_time, AreInTime}
+use Rattle.ledger_model.{specs.declared.order.Order.Order, specs.declared.order.Order.TheVariants.{Sequence, Moment}, specs.InTime.{put_in_time, in_order, in_time, AreInTime}}
 
 module _ {X : Type 0} (when : X → ℕ) where
   -- An element goes behind an earlier one, and in front of any other.
@@ -265,3 +265,21 @@ module _ {X Y : Type 0} (when : Y → ℕ) (h : X → Y) where
   pub in_time-map : (xs : List X) → in_time when (map h xs) ≡ map h (in_time (λ x. when (h x)) xs)
   in_time-map [] = refl
   in_time-map (x ∷ xs) = ap (put_in_time when (h x)) (in_time-map xs) ∙ put-map x (in_time (λ x. when (h x)) xs)
+
+-- In either order.
+module _ {X : Type 0} (when : X → ℕ) where
+  pub order-nil : (order : Order) → in_order order when [] ≡ []
+  order-nil Sequence = refl
+  order-nil Moment = refl
+
+  pub order-passed : (order : Order) (p : X → Bool) (xs : List X) → in_order order when (filter p xs) ≡ filter p (in_order order when xs)
+  order-passed Sequence p xs = refl
+  order-passed Moment p xs = in_time-passed when p xs
+
+  pub order-sum : (order : Order) (f : X → ℕ) (xs : List X) → sum_by f (in_order order when xs) ≡ sum_by f xs
+  order-sum Sequence f xs = refl
+  order-sum Moment f xs = in_time-sum when f xs
+
+pub order-map : {X Y : Type 0} (order : Order) (when : Y → ℕ) (h : X → Y) (xs : List X) → in_order order when (map h xs) ≡ map h (in_order order (λ x. when (h x)) xs)
+order-map Sequence when h xs = refl
+order-map Moment when h xs = in_time-map when h xs

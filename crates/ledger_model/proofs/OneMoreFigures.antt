@@ -1,7 +1,7 @@
 -- How figures and energies change with one more live event.
-use Rattle.std.{proofs.Common.{◌≡◌, ℕ, ◌+◌, ◌==◌, Bool, true, false, cond, not, ◌&&◌, T, List, [], ◌∷◌, Option, Some, None, is_some, length, map, refl, sym, ap, subst, ◌∙◌, arith}, specs.List.{filter, sum_by, count_by}, specs.Ordering.is_eq, specs.declared.cmp.Ordering.Ordering, specs.declared.cmp.Ordering.TheVariants.{Less, Equal, Greater}, specs.FinMap.Entries.{find, below_all, length-put}, proofs.lemmas.List.length-append}
+use Rattle.std.{proofs.Common.{◌≡◌, ℕ, ◌+◌, ◌==◌, Bool, true, false, cond, ◌&&◌, List, ◌∷◌, Option, Some, None, is_some, length, map, refl, sym, ap, ◌∙◌, arith}, specs.List.{filter, sum_by, count_by}, specs.FinMap.Entries.{find, put, length-put}, proofs.lemmas.List.{length-append, length-map}}
 use Rattle.energy_flow.specs.Flow.{Energy, plus}
-use Rattle.ledger_model.{specs.Periods.Periods, specs.declared.reading.Direction.Direction, specs.declared.command.Command.TheVariants.{Deliver, Void, Restore, Erase}, specs.Event.EventContent, specs.Key.{KeyName, key_cmp}, specs.Content.{Entry, Stored, live, transactions_of, has_transaction}, specs.Entries.{IsRising, entries_after, entries_without, entries_marked_at}, specs.declared.order.Order.Order, specs.Energy.{Pair, difference, energy, energy_in, energy_of, energy_of_by, energy_over, energy_within, pairs, parts_of, parts_over}, specs.Parts.Part, specs.Evse.{evse_of, energy_at_by}, specs.Gaps.{missing, numbers_of}, specs.Complete.{is_complete, starts_and_ends}, specs.Deltas.{IsOneMore, came_by, flow_if, gone_by}, proofs.Keys.{key_total, exact_keys}, proofs.Rising.{first, second, below_less, find_below}, proofs.Transactions.transactions_added, proofs.FigureBounds.live_and_voided, proofs.OneMore.{live_else, by_transaction_sums, station_moved, transaction_moved, passed_sum, taken}, proofs.OrderLemmas.evse_sums, proofs.SumLemmas.sum_by-flat_map, specs.DeltaLaws.count_in, proofs.OneMoreByCommand.{delivered_more, restored_more, voided_less, erased_same, kept_below}}
+use Rattle.ledger_model.{specs.Periods.Periods, specs.declared.reading.Direction.Direction, specs.declared.command.Command.TheVariants.{Deliver, Void, Restore, Erase}, specs.Event.EventContent, specs.Key.{KeyName, key_cmp}, specs.Content.{Entry, Stored, live, transactions_of, has_transaction}, specs.Entries.{IsRising, entries_after, entries_without, entries_marked_at}, specs.declared.order.Order.Order, specs.Energy.{Pair, difference, energy, energy_in, energy_of, energy_of_by, energy_over, energy_within, pairs, parts_of, parts_over}, specs.Parts.Part, specs.Evse.{evse_of, energy_at_by}, specs.Gaps.{missing, numbers_of}, specs.Complete.{is_complete, starts_and_ends}, specs.Deltas.{IsOneMore, came_by, flow_if, gone_by}, proofs.Keys.{key_total}, proofs.Cuts.{behind, cut, cut_at, in_front, map_put_old}, proofs.Transactions.transactions_added, proofs.FigureBounds.live_and_voided, proofs.OneMore.{live_else, by_transaction_sums, station_moved, transaction_moved, passed_sum, taken}, proofs.OrderLemmas.evse_sums, proofs.SumLemmas.sum_by-flat_map, specs.DeltaLaws.count_in, proofs.OneMoreByCommand.{delivered_more, restored_more, voided_less, erased_same}}
 
 -- One event more is live.
 pub events_more : (es more front : List Entry) (e : Entry) (back : List Entry) → IsOneMore es more front e back → length (live more) ≡ length (live es) + 1
@@ -113,19 +113,20 @@ energy_at_more order d evse es more front e back one =
 -- As many events are stored after a mark.
 marked_length : (es : List Entry) (key : KeyName) (voided : Bool) (s : Stored) → IsRising es → find key_cmp key es ≡ Some s → length (entries_marked_at es key voided (find key_cmp key es)) ≡ length es
 marked_length es key voided s rising there =
-    ap (λ o. length (entries_marked_at es key voided o)) there
-    ∙ length-put key_cmp key_total key (record { event = s.event; voided = voided }) es rising ∙ ap (λ (o : Option Stored). cond (is_some o) (length es) (length es + 1)) there
+    let v : Stored = record { event = s.event; voided = voided } in
+    let none : Entry → ℕ = λ e. 0 in
+    ap (λ o. length (entries_marked_at es key voided o)) there ∙ sym (length-map (put key_cmp key v es) none)
+    ∙ ap length (map_put_old key none v s es rising there refl) ∙ length-map es none
 
 -- One event less is stored after an erasure.
 erased_length : (es : List Entry) (key : KeyName) (s : Stored) → IsRising es → find key_cmp key es ≡ Some s → length (entries_without key es) + 1 ≡ length es
-erased_length [] key s rising there = cc
-erased_length (e ∷ es) key s rising there =
-    (elim (key_cmp key e.0) as (λ (o : Ordering). key_cmp key e.0 ≡ o → cond (is_eq o) (Some e.1) (find key_cmp key es) ≡ Some s
-    → length (cond (not (is_eq o)) (e ∷ entries_without key es) (entries_without key es)) + 1 ≡ length (e ∷ es)) [
-      | Less ↦ λ lt some. let none = find_below key es (below_less key e.0 es lt (first _ _ rising)) in cc
-      | Equal ↦ λ eq some. let kept = ap length (kept_below key es (subst (λ k. T (below_all key_cmp k es)) (sym (exact_keys key e.0 eq)) (first _ _ rising))) in omega (arith, kept)
-      | Greater ↦ λ gt some. omega (arith, erased_length es key s (second _ _ rising) some)
-    ]) refl there
+erased_length es key s rising there = omega (
+  arith,
+  ap length (cut key es rising).without,
+  ap length (cut_at key s es rising there),
+  length-append (in_front key es) (behind key es),
+  length-append (in_front key es) ((key, s) ∷ behind key es),
+)
 
 -- A delivery of a new key leaves as many events voided.
 pub voided_delivered : (es : List Entry) (key : KeyName) (event : EventContent) → IsRising es → find key_cmp key es ≡ None

@@ -1,23 +1,7 @@
 -- The readings of a transaction in either order, with one event more.
 use Rattle.std.{proofs.Common.{◌≡◌, ℕ, ◌+◌, ◌*◌, ◌<◌, ◌≤◌, Bool, false, cond, not, ◌||◌, List, [], ◌∷◌, ◌++◌, length, map, refl, sym, ap, subst, ◌∙◌, ⊎_elim, bytes_eq, eqb, nat_lt, arith}, specs.List.{filter, flat_map, sum_by, zip}, proofs.Math.Path.fun_ext, proofs.lemmas.Bool.{cases_lt, eq-eqb, ne_eqb, lt-ltb, le-ltb}, proofs.lemmas.Grind.flat_map-append, proofs.lemmas.List.Elements.filter-append, proofs.lemmas.List.Sums.sum_by-append}
-use Rattle.ledger_model.{specs.declared.order.Order.Order, specs.declared.order.Order.TheVariants.{Sequence, Moment}, specs.declared.reading.Direction.Direction, specs.Content.{Entry, live, live_of, transactions_of}, specs.Deltas.{before_key, behind_key, own_events, IsOneMore}, specs.Energy.{Pair, all_pairs_by, followed, pairs_by, readings_by, readings_of}, specs.Event.{MeterReading, toward}, specs.Evse.{evse_of, transactions_at}, specs.InTime.{across_runs, in_order, in_pairs, runs}, specs.ReadingOrder.{Numbered, bare, is_own, numbered, numbered_by, pairs_across, pairs_with, runs_of}, proofs.InTimeLemmas.{in_time-map, in_time-passed, in_time-sum}, proofs.KeysByNumber.{own_before_key, own_behind_key}, proofs.OneMore.{by_transaction_sums, evse_else, live_else, live_with, live_without, nothing_taken, passed_sum, taken}, proofs.RunLemmas.{AreForeign, AreOwn, few_by_runs, foreign_passed, one_run, own_passed, runs_sums}, proofs.SumLemmas.{sum_by-flat_map, sum_by-map}}
-
-module _ {X : Type 0} (when : X → ℕ) where
-  pub order-nil : (order : Order) → in_order order when [] ≡ []
-  order-nil Sequence = refl
-  order-nil Moment = refl
-
-  pub order-passed : (order : Order) (p : X → Bool) (xs : List X) → in_order order when (filter p xs) ≡ filter p (in_order order when xs)
-  order-passed Sequence p xs = refl
-  order-passed Moment p xs = in_time-passed when p xs
-
-  pub order-sum : (order : Order) (f : X → ℕ) (xs : List X) → sum_by f (in_order order when xs) ≡ sum_by f xs
-  order-sum Sequence f xs = refl
-  order-sum Moment f xs = in_time-sum when f xs
-
-order-map : {X Y : Type 0} (order : Order) (when : Y → ℕ) (h : X → Y) (xs : List X) → in_order order when (map h xs) ≡ map h (in_order order (λ x. when (h x)) xs)
-order-map Sequence when h xs = refl
-order-map Moment when h xs = in_time-map when h xs
+use Rattle.ledger_model.{specs.declared.order.Order.Order, specs.declared.order.Order.TheVariants.{Sequence}, specs.declared.reading.Direction.Direction, specs.Content.{Entry, live, live_of, transactions_of}, specs.Deltas.{before_key, behind_key, own_events, IsOneMore}, specs.Energy.{Pair, all_pairs_by, followed, pairs_by, readings_by, readings_of}, specs.Event.{MeterReading, toward}, specs.Evse.{evse_of, transactions_at}, specs.InTime.{across_runs, in_order, in_pairs, runs}, specs.ReadingOrder.{Numbered, bare, is_own, numbered, numbered_by, pairs_across, pairs_with, runs_of}, proofs.InTimeLemmas.{order-map, order-nil, order-passed, order-sum}, proofs.KeysByNumber.{own_before_key, own_behind_key}, proofs.OneMore.{by_transaction_sums, evse_else, live_else, live_with, live_without, nothing_taken, passed_sum, taken}, proofs.RunLemmas.{AreForeign, AreOwn, few_by_runs, foreign_passed, one_run, own_passed, runs_sums}, proofs.SumLemmas.{sum_by-flat_map, sum_by-map}}
+pub use Rattle.ledger_model.proofs.InTimeLemmas.{order-nil}
 
 map-flat : {X Y Z : Type 0} (g : Y → Z) (h : X → List Y) (xs : List X) → map g (flat_map h xs) ≡ flat_map (λ x. map g (h x)) xs
 map-flat g h [] = refl
