@@ -15,7 +15,7 @@ pub use Rattle.ledger_model.proofs.NumberLemmas.{rising_from_sorted}
 pub use Rattle.ledger_model.proofs.Splices.{followed_cut, followed_sums, few_across, few_between}
 pub use Rattle.ledger_model.proofs.OneMoreByCommand.{delivered_more, restored_more, voided_less, erased_same}
 pub use Rattle.ledger_model.proofs.OneMore.{passed_sum, live_with, live_without, live_else, pairs_with, pairs_without, pairs_else, pairs_less_kept, pairs_more_kept, less_kept, more_kept, few_moved, transaction_moved, station_moved, transaction_sums, by_transaction_sums, station_sums, evse_else, evse_counts}
-pub use Rattle.ledger_model.proofs.OneMoreFigures.{events_more, transactions_more, complete_more, missing_more, energy_more, energy_of_more, energy_in_more, parts_in_more, energy_at_more, voided_delivered, voided_restored, voided_voided, voided_erased}
+pub use Rattle.ledger_model.proofs.OneMoreFigures.{events_more, transactions_more, complete_more, missing_more, energy_at_more, voided_delivered, voided_restored, voided_voided, voided_erased}
 pub use Rattle.ledger_model.proofs.KeysByNumber.{own_before_key, own_behind_key}
 pub use Rattle.ledger_model.proofs.InTimeLemmas.{AreFrom, AreUpTo, later_from, put-behind, put-first, put-front, put-passed, put-sum, put_rises, rest_from, cons_rises, tail_rises, in_time-passed, in_time-rises, in_time-map, in_time-sum}
 pub use Rattle.ledger_model.proofs.OrderLemmas.{others_stay, own_numbered, less_numbered, numbered_readings, order-nil, station_moves, transaction_moves}

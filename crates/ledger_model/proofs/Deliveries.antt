@@ -1,7 +1,7 @@
 -- Two deliveries that are accepted are accepted the other way round, and leave the same.
 use Rattle.std.{proofs.Common.{◌≡◌, ℕ, ◌+◌, ◌≤◌, Bool, true, false, cond, not, ◌&&◌, ◌||◌, List, ◌∷◌, ◌++◌, Option, Some, None, length, sum_by, refl, ap, sym, subst, ◌∙◌, nat_le, nat_lt, bytes_eq, arith, IsPermutation, true≢false}, specs.Ordering.eq_by_cmp, specs.List.list_any, specs.Cmp.eq_by_cmp_equiv, specs.FinMap.FinMap, proofs.lemmas.Bool.{ltb-false, le-ltb}, proofs.lemmas.Cmp.nat_list_eq_equiv, proofs.lemmas.List.length-append, proofs.lemmas.List.Folds.list_any-append, proofs.lemmas.List.Sums.{sum_by-append, sum_by-cons}, proofs.lemmas.Slice.Eq.bytes_eq-Decides}
 use Rattle.std.specs.FinMap as finite
-use Rattle.ledger_model.{specs.declared.command.Command.Command, specs.declared.command.Command.TheVariants.Deliver, specs.declared.answer.Answer.Answer, specs.declared.answer.Answer.TheVariants.{Accepted, Repeat, Refused}, specs.declared.answer.Refusal.TheVariants.{ConflictingEvent, TooManyTransactions, EventsFull, ReadingsFull, ChangesExhausted}, specs.Key.{KeyName, key_cmp}, specs.Event.same_event, specs.Limits.Bounds, specs.Content.{Content, Stored, Entry, entries, transactions_of, has_transaction}, specs.Step.{step, answer, answer_to_deliver, readings_stored, content_after}, specs.Laws.{IsAccepted, AreAccepted, left_by, Sent, deliveries}, proofs.Cuts.{at_key, behind, cut, in_front}, proofs.Keys.{key_total, exact_keys}, proofs.LedgerLemmas.not_refused, proofs.Transactions.transactions_added, proofs.Exchanges.{IsKeptByExchanges, of_permutation}}
+use Rattle.ledger_model.{specs.declared.command.Command.Command, specs.declared.command.Command.TheVariants.Deliver, specs.declared.answer.Answer.Answer, specs.declared.answer.Answer.TheVariants.{Accepted, Repeat, Refused}, specs.declared.answer.Refusal.TheVariants.{ConflictingEvent, TooManyTransactions, EventsFull, ReadingsFull, ChangesExhausted}, specs.Key.{KeyName, key_cmp}, specs.Event.same_event, specs.Limits.Bounds, specs.Content.{Content, Stored, Entry, entries, transactions_of, has_transaction}, specs.Step.{step, answer, answer_to_deliver, readings_stored, content_after}, specs.Laws.{DeliversTheSame, IsAccepted, AreAccepted, left_by, Sent, deliveries}, proofs.Cuts.{at_key, behind, cut, in_front}, proofs.Keys.{key_total, exact_keys}, proofs.LedgerLemmas.not_refused, proofs.Transactions.transactions_added, proofs.Exchanges.{IsKeptByExchanges, of_permutation}}
 
 abbrev pub fresh : Sent → Stored
 fresh d = record { event = d.1; voided = false }
@@ -190,9 +190,6 @@ module _ (limits : Bounds) where
   each_order : (one other : List Sent) → IsPermutation one other → Reordered one other
   each_order one other p = of_permutation Reordered reordered one other p
 
-pub orders_accepted : (limits : Bounds) (c : Content) (one other : List Sent) → IsPermutation one other → AreAccepted limits c (deliveries one) → AreAccepted limits c (deliveries other)
-orders_accepted limits c one other p h = (each_order limits one other p c h).0
-
-pub orders_content : (limits : Bounds) (c : Content) (one other : List Sent) → IsPermutation one other
-    → AreAccepted limits c (deliveries one) → left_by limits c (deliveries other) ≡ left_by limits c (deliveries one)
-orders_content limits c one other p h = (each_order limits one other p c h).1
+-- Deliveries in another order are accepted too, and leave the same.
+pub each_order_delivers : (limits : Bounds) (c : Content) (one other : List Sent) → IsPermutation one other → AreAccepted limits c (deliveries one) → DeliversTheSame limits c one other
+each_order_delivers limits c one other p h = let both = each_order limits one other p c h in record { accepted = both.0; content = both.1 }

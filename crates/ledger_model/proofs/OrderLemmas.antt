@@ -12,7 +12,8 @@ pub numbered_readings : (order : Order) (d : Direction) (tx : List ℕ) (es : Li
 numbered_readings order d tx es =
     sym (order-map order (λ r. r.moment) (λ (n : Numbered). n.1) (flat_map (numbered d) (live_of tx es)))
     ∙ ap (in_order order (λ r. r.moment))
-    (map-flat (λ (n : Numbered). n.1) (numbered d) (live_of tx es) ∙ ap (λ h. flat_map h (live_of tx es)) (fun_ext (λ (e : Entry). map-map (λ (n : Numbered). n.1) (λ r. (e.0.seq, r)) (toward d e.1.event.readings) ∙ map-id (toward d e.1.event.readings))))
+    (map-flat (λ (n : Numbered). n.1) (numbered d) (live_of tx es)
+    ∙ ap (λ h. flat_map h (live_of tx es)) (fun_ext (λ (e : Entry). map-map (λ (n : Numbered). n.1) (λ r. (e.0.seq, r)) (toward d e.1.event.readings) ∙ map-id (toward d e.1.event.readings))))
 
 zip-map : {X Y : Type 0} (g : X → Y) (xs ys : List X) → zip (map g xs) (map g ys) ≡ map (λ p. (g p.0, g p.1)) (zip xs ys)
 zip-map g [] ys = refl

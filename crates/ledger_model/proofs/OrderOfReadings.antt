@@ -66,7 +66,8 @@ module _ (d : Direction) (tx : List ℕ) where
       ∙ ap (λ l. front ++ (mid ++ l)) (own_behind_key (named n) es) in
       let under = λ (e : Entry). nat_lt e.0.seq (suc n) in
       let stays : below (suc n) front ≡ front = filter_twice under (λ e. nat_lt e.0.seq n) (live_of tx es) ∙ ap (λ p. filter p (live_of tx es)) (fun_ext (λ (e : Entry). below_next n e.0.seq)) in
-      let none : below (suc n) back ≡ [] = filter_twice under (λ e. nat_lt n e.0.seq) (live_of tx es) ∙ ap (λ p. filter p (live_of tx es)) (fun_ext (λ (e : Entry). not_above n e.0.seq)) ∙ none_left (live_of tx es) in
+      let none : below (suc n) back ≡ [] =
+      filter_twice under (λ e. nat_lt n e.0.seq) (live_of tx es) ∙ ap (λ p. filter p (live_of tx es)) (fun_ext (λ (e : Entry). not_above n e.0.seq)) ∙ none_left (live_of tx es) in
       ap (λ l. told (below (suc n) l)) parts
       ∙ ap told (filter-append under front (mid ++ back) ∙ (λ i. stays i ++ filter-append under mid back i) ∙ (λ i. front ++ (below (suc n) mid ++ none i)))
       ∙ flat_map-append (λ (e : Entry). toward d e.1.event.readings) front (below (suc n) mid ++ []) ∙ ap (λ l. told front ++ told l) (append-nil (below (suc n) mid))

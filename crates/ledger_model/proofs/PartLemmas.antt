@@ -115,7 +115,9 @@ module _ (c : Change) where
         let at_last : gone (last * length) ≤ long = omega (arith, div-mul-le_self ((c.until - 1) / 1_000_000_000) length, seconds) in
         let ends : gone ((first + (last - first)) * length) ≤ long = subst (λ k. gone (k * length) ≤ long) all at_last in
         ⊎_elim
-        (λ (less : c.earlier < c.later). let rises : c.earlier ≤ c.later = omega (arith, less) in rising_add rises first c.earlier (last - first) rises (omega (arith, level_up ((first + 1) * length) rises)) ends)
+        (λ (less : c.earlier < c.later).
+        let rises : c.earlier ≤ c.later = omega (arith, less) in
+        rising_add rises first c.earlier (last - first) rises (omega (arith, level_up ((first + 1) * length) rises)) ends)
         (λ (falls : c.later ≤ c.earlier). falling_add falls first c.earlier (last - first) falls (omega (arith, level_down ((first + 1) * length) falls)) ends)
         (cases_lt c.earlier c.later)
 

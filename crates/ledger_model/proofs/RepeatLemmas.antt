@@ -1,6 +1,6 @@
 -- Readings that repeat others, by moment.
 use Rattle.std.{proofs.Common.{◌≡◌, ℕ, ◌+◌, ◌-◌, ◌<◌, ◌≤◌, ◌⊎◌, inl, inr, Bool, true, false, cond, List, [], ◌∷◌, ◌++◌, Option, Some, None, refl, sym, ap, subst, ◌∙◌, ⊎_elim, bytes_eq, eqb, arith, append_assoc, ◌&&◌}, specs.Prelude.{nat_le, nat_lt}, specs.List.{filter, filter_map, flat_map, sum_by, AllByRecursion}, proofs.lemmas.Bool.{cases_Bool, cases_eq, eq-eqb, ltb-true, ne_eqb}, proofs.lemmas.Grind.flat_map-append, proofs.lemmas.List.map-append, proofs.lemmas.List.Elements.{filter-append, filter_map-append, recursion_from_All}, proofs.lemmas.List.Sums.sum_by-cons}
-use Rattle.ledger_model.{specs.Periods.Periods, specs.declared.order.Order.TheVariants.Moment, specs.declared.reading.Direction.Direction, specs.declared.reading.Direction.TheVariants.{Import, Export}, specs.Content.{Entry, distinct, live, transactions_of}, specs.Deltas.{across, first_reading, last_reading, pairs_between}, specs.Energy.{Pair, energy_by, energy_in_by, energy_of_by, energy_over, energy_within, followed, pairs_by, parts_of, parts_over, readings_by, readings_of}, specs.Event.{MeterReading, same_direction, toward}, specs.Evse.{energy_at_by, evse_of, first_or_zero, transactions_at}, specs.InTime.{AreInTime, in_time}, specs.Key.KeyName, specs.Parts.{Part, longest_share, parts_by, shares, whole}, specs.Settling.settled_by, specs.declared.settle.Settle.Settle, specs.declared.settle.Settle.TheVariants.{Later, Closing, Even}, specs.ReadingOrder.{taken_when, IsOneReadingMore, IsRepeat}, proofs.EnergyLemmas.same_energy, proofs.InTimeLemmas.{AreFrom, AreUpTo, IsPutIn, in_time-rises, of_moment, none_earlier, one_put_in, rest_from, tail_rises}, proofs.OneMore.{passed_sum, taken}, proofs.Splices.{followed_sums, last_is}, proofs.SumLemmas.{sum_by-flat_map, sum_by-same}, proofs.SumsByTransaction.one_text}
+use Rattle.ledger_model.{specs.Periods.Periods, specs.declared.order.Order.TheVariants.Moment, specs.declared.reading.Direction.Direction, specs.declared.reading.Direction.TheVariants.{Import, Export}, specs.Content.{Entry, distinct, live, transactions_of}, specs.Deltas.{across, first_reading, last_reading, pairs_between}, specs.Energy.{Pair, energy_by, energy_in_by, energy_of_by, energy_over, energy_within, followed, pairs_by, parts_of, parts_over, readings_by, readings_of}, specs.Event.{MeterReading, same_direction, toward}, specs.Evse.{energy_at_by, evse_of, first_or_zero, transactions_at}, specs.InTime.{AreInTime, in_time}, specs.Key.KeyName, specs.Parts.{Part, longest_share, parts_by, shares, whole}, specs.Settling.settled_by, specs.declared.settle.Settle.Settle, specs.declared.settle.Settle.TheVariants.{Later, Closing, Even}, specs.ReadingOrder.{taken_when, IsOneReadingMore, IsRepeat}, proofs.EnergyLemmas.same_energy, proofs.InTimeLemmas.{AreFrom, AreUpTo, IsPutIn, in_time-rises, of_moment, none_earlier, one_put_in, rest_from, tail_rises}, proofs.OneMore.{passed_sum, taken}, proofs.Splices.{followed_sums, last_is}, proofs.SumLemmas.{sum_by-flat_map, sum_by-same}, proofs.SumsByTransaction.one_text, proofs.Transactions.ids}
 use Rattle.energy_flow.specs.Flow.{difference_of}
 
 none_or_some : {X : Type 0} (xs : List X) → (xs ≡ []) ⊎ (xs ≡ [] → ⊥)
@@ -44,7 +44,8 @@ module _ (P : MeterReading → Type 0) (m : ℕ) where
   first_of [] up from some all = absurd (some refl)
   first_of (r ∷ rs) up from some all = ⊎_elim
       (λ (e : r.moment ≡ m). record { s = r; is = refl; moment = e; so = all.0 })
-      (λ (apart : r.moment ≡ m → ⊥). absurd (some (elsewhere m r rs apart ∙ none_earlier taken_when m r.moment rs (let a : m ≤ r.moment = from.0 in lt_from m r.moment a apart) (rest_from taken_when r rs up))))
+      (λ (apart : r.moment ≡ m → ⊥). absurd (some (elsewhere m r rs apart
+      ∙ none_earlier taken_when m r.moment rs (let a : m ≤ r.moment = from.0 in lt_from m r.moment a apart) (rest_from taken_when r rs up))))
       (cases_eq r.moment m)
     where
       lt_from : (m n : ℕ) → m ≤ n → (n ≡ m → ⊥) → m < n
@@ -123,8 +124,11 @@ module _ (es more : List Entry) (key : KeyName) (r : MeterReading) (one : IsOneR
   abbrev is_now : Entry
   is_now = (key, record { event = record one.event { readings = one.first ++ r ∷ one.last }; voided = false })
 
+  ids_cut : (x : Entry) → ids (one.front ++ x ∷ one.back) ≡ ids one.front ++ ids (x ∷ one.back)
+  ids_cut x = map-append (λ (e : Entry). e.0.tx) one.front (x ∷ one.back)
+
   pub transactions_stay : transactions_of (live more) ≡ transactions_of (live es)
-  transactions_stay = ap transactions_of one.more_live ∙ ap distinct (map-append (λ (e : Entry). e.0.tx) one.front (is_now ∷ one.back) ∙ sym (map-append (λ (e : Entry). e.0.tx) one.front (was ∷ one.back))) ∙ ap transactions_of (sym one.less_live)
+  transactions_stay = ap transactions_of one.more_live ∙ ap distinct (ids_cut is_now ∙ sym (ids_cut was)) ∙ ap transactions_of (sym one.less_live)
 
   abbrev own : List ℕ → List Entry → List Entry
   own tx es = filter (λ (e : Entry). bytes_eq tx e.0.tx) es

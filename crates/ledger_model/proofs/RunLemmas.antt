@@ -124,7 +124,8 @@ module _ {X : Type 0} (own : X → Bool) where
       begun false n = omega arith
 
       by_case : (b : Bool) → length (across_behind front true own xs) ≤ runs_behind true own xs + 1 → length (across_behind (Some x) false own xs) ≤ runs_behind false own xs + 0
-          → length (cond b (across_behind front true own xs) (cond since (joined front x) [] ++ across_behind (Some x) false own xs)) ≤ cond (b && not since) 1 0 + runs_behind b own xs + cond since 1 0
+          → length (cond b (across_behind front true own xs) (cond since (joined front x) [] ++ across_behind (Some x) false own xs))
+          ≤ cond (b && not since) 1 0 + runs_behind b own xs + cond since 1 0
       by_case true on off = omega (arith, on, begun since (runs_behind true own xs))
       by_case false on off = omega (arith, off, length-append (cond since (joined front x) []) (across_behind (Some x) false own xs), few_joined since front)
 

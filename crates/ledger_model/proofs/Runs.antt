@@ -1,6 +1,6 @@
 -- Runs of a world, station by station, and runs of deliveries in another order.
 use Rattle.std.{proofs.Common.{◌≡◌, ℕ, Bool, true, false, cond, List, [], ◌∷◌, ◌++◌, Some, None, map, All, refl, ap, sym, subst, ◌∙◌, bytes_eq, IsPermutation}, specs.List.cons_option, proofs.lemmas.List.Elements.{All-cons, All-head, All-nil, All-tail}}
-use Rattle.ledger_model.{specs.declared.command.Command.Command, specs.declared.command.Command.TheVariants.{Deliver, Void, Restore, Erase}, specs.declared.answer.Answer.Answer, specs.declared.answer.Answer.TheVariants.{Accepted, Repeat, Refused}, specs.Limits.Bounds, specs.Content.Content, specs.Laws.{AreAccepted, IsAccepted, deliveries, left_by}, specs.Step.{answer, content_after, step}, specs.World.{Station, World, Happens, run, station_after, world_after}, specs.WorldLaws.{AreReordered, IsDelivery, accepted_deliveries, commands_on, delivered_by, station_left}, proofs.Deliveries.orders_content}
+use Rattle.ledger_model.{specs.declared.command.Command.Command, specs.declared.command.Command.TheVariants.{Deliver, Void, Restore, Erase}, specs.declared.answer.Answer.Answer, specs.declared.answer.Answer.TheVariants.{Accepted, Repeat, Refused}, specs.Limits.Bounds, specs.Content.Content, specs.Laws.{AreAccepted, IsAccepted, deliveries, left_by}, specs.Step.{answer, content_after, step}, specs.World.{Station, World, Happens, run, station_after, world_after}, specs.WorldLaws.{AreReordered, IsDelivery, accepted_deliveries, commands_on, delivered_by, station_left}, proofs.Deliveries.each_order_delivers}
 
 -- ---- station by station
 
@@ -72,7 +72,7 @@ pub reordered_station : (s : Station) (one other : List Happens) → All (λ h. 
 reordered_station s one other o r same =
     let a = delivers s.limits s.content (commands_on s.name one) (delivered_on s.name one o) in
     let b = delivers s.limits s.content (commands_on s.name other) (delivered_on s.name other r) in
-    ap (λ c. record s { content = c }) (sym a.1 ∙ sym (orders_content s.limits s.content _ _ same a.0) ∙ b.1)
+    ap (λ c. record s { content = c }) (sym a.1 ∙ sym ((each_order_delivers s.limits s.content _ _ same a.0).content) ∙ b.1)
 
 -- the same deliveries at a station, in another order
 abbrev Reorders : List Happens → List Happens → Station → Type 0
