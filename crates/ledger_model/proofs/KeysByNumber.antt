@@ -1,10 +1,6 @@
 -- Where a key is among the events of its own transaction: by its number.
-use Rattle.std.{proofs.Common.{◌≡◌, ℕ, ◌<◌, Bool, true, false, ◌&&◌, nat_lt, ◌⊎◌, List, refl, sym, ap, ◌∙◌, bytes_eq, arith, ⊎_elim}, specs.List.filter, specs.Ordering.{is_lt, nat_cmp, ordering_then}, specs.Cmp.{nat_cmp_is, tied_itself}, specs.Cmp.Lexicographic.slice_cmp, specs.declared.cmp.Ordering.TheVariants.{Less, Equal, Greater}, proofs.Math.Path.fun_ext, proofs.lemmas.Bool.{lt-ltb, le-ltb, cases_order}, proofs.lemmas.Cmp.nat_list_cmp_total}
+use Rattle.std.{proofs.Common.{◌≡◌, ℕ, ◌<◌, Bool, true, false, ◌&&◌, nat_lt, ◌⊎◌, List, refl, sym, ap, ◌∙◌, bytes_eq, arith, ⊎_elim}, specs.List.filter, specs.Ordering.{is_lt, nat_cmp, ordering_then}, specs.Cmp.{nat_cmp_is, tied_itself}, specs.Cmp.Lexicographic.slice_cmp, specs.declared.cmp.Ordering.TheVariants.{Less, Equal, Greater}, proofs.Math.Path.fun_ext, proofs.lemmas.Bool.{and_right, lt-ltb, le-ltb, cases_order}, proofs.lemmas.Cmp.nat_list_cmp_total}
 use Rattle.ledger_model.{specs.Key.{KeyName, key_cmp}, specs.Content.{Entry, live, live_of}, specs.Deltas.{before_key, behind_key, own_events}, proofs.SumsByTransaction.{filter_twice, one_text}}
-
-never : (b : Bool) → (b && false) ≡ false
-never true = refl
-never false = refl
 
 always : (b : Bool) → (b && true) ≡ b
 always true = refl
@@ -30,7 +26,7 @@ own_in_front : (key : KeyName) (e : Entry) → (is_lt (key_cmp e.0 key) && bytes
 own_in_front key e =
     (elim (bytes_eq key.tx e.0.tx) as (λ b. bytes_eq key.tx e.0.tx ≡ b → (is_lt (key_cmp e.0 key) && b) ≡ (b && nat_lt e.0.seq key.seq)) [
       | true ↦ λ is. always (is_lt (key_cmp e.0 key)) ∙ by_number e.0 key (sym (one_text key.tx e.0.tx is))
-      | false ↦ λ is. never (is_lt (key_cmp e.0 key))
+      | false ↦ λ is. and_right (is_lt (key_cmp e.0 key)) false refl
     ]) refl
 
 -- Those behind it have greater ones.
@@ -38,7 +34,7 @@ own_behind : (key : KeyName) (e : Entry) → (is_lt (key_cmp key e.0) && bytes_e
 own_behind key e =
     (elim (bytes_eq key.tx e.0.tx) as (λ b. bytes_eq key.tx e.0.tx ≡ b → (is_lt (key_cmp key e.0) && b) ≡ (b && nat_lt key.seq e.0.seq)) [
       | true ↦ λ is. always (is_lt (key_cmp key e.0)) ∙ by_number key e.0 (one_text key.tx e.0.tx is)
-      | false ↦ λ is. never (is_lt (key_cmp key e.0))
+      | false ↦ λ is. and_right (is_lt (key_cmp key e.0)) false refl
     ]) refl
 
 -- The live events of a key's transaction in front of the key are those of smaller numbers.

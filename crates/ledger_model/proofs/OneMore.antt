@@ -1,5 +1,5 @@
 -- What one more live event changes: only in its transaction.
-use Rattle.std.{proofs.Common.{◌≡◌, ℕ, ◌+◌, ◌==◌, ◌≤◌, Bool, true, false, cond, ◌||◌, List, [], ◌∷◌, ◌++◌, Option, length, refl, sym, ap, ◌∙◌, bytes_eq, arith}, specs.List.{filter_map, flat_map, list_any, sum_by}, proofs.lemmas.List.Elements.filter-append, proofs.lemmas.List.Sums.{sum_by-append, length-filter}, proofs.lemmas.Grind.flat_map-append, proofs.lemmas.Cmp.nat_list_eq_equiv}
+use Rattle.std.{proofs.Common.{◌≡◌, ℕ, ◌+◌, ◌==◌, ◌≤◌, Bool, true, false, cond, List, [], ◌∷◌, ◌++◌, Option, length, refl, sym, ap, ◌∙◌, bytes_eq, arith}, specs.List.{filter_map, flat_map, list_any, sum_by}, proofs.lemmas.List.Elements.filter-append, proofs.lemmas.List.Sums.{sum_by-append, length-filter}, proofs.lemmas.Grind.flat_map-append, proofs.lemmas.Bool.or_parts, proofs.lemmas.Cmp.nat_list_eq_equiv}
 use Rattle.ledger_model.{specs.declared.reading.Direction.Direction, specs.Event.{MeterReading, toward}, specs.Content.{Entry, has_transaction, live, live_of, transactions_of}, specs.Energy.{Pair, followed, pairs, pairs_of}, specs.Evse.{evse_of, transactions_at, first_or_zero}, specs.Deltas.{across, came_by, gone_by, if_read, kept_by, most_for, own_events, own_readings, pairs_between, IsOneMore, pairs_less, pairs_more, pairs_kept, read_or, reading_before, reading_behind}, proofs.SumLemmas.{passed_sum, sum_by-flat_map, taken}, proofs.Transactions.{any-map, ids, now_there, others_ids}, proofs.Splices.{few_across, few_between, followed_cut}, proofs.SumsByTransaction.{others, same_text, sum_by_one, sums_differ_by_one, counts_differ_by_one}}
 pub use Rattle.ledger_model.proofs.SumLemmas.{passed_sum, taken}
 
@@ -20,13 +20,8 @@ own_else u e front back apart =
 none_own : (t : List ℕ) (es : List Entry) → list_any (bytes_eq t) (ids es) ≡ false → own_events t es ≡ []
 none_own t [] none = refl
 none_own t (e ∷ es) none =
-    (elim (bytes_eq t e.0.tx) as (λ b. (b || list_any (bytes_eq t) (ids es)) ≡ false → cond b (e ∷ own_events t es) (own_events t es) ≡ []) [
-      | true ↦ λ h. absurd (true_not h)
-      | false ↦ λ h. none_own t es h
-    ]) none
-  where
-    true_not : true ≡ false → ⊥
-    true_not h = cc
+    let parts = or_parts (bytes_eq t e.0.tx) (list_any (bytes_eq t) (ids es)) none in
+    ap (λ b. cond b (e ∷ own_events t es) (own_events t es)) parts.0 ∙ none_own t es parts.1
 
 -- The live events of the transaction, without the event.
 pub live_without : (es more front : List Entry) (e : Entry) (back : List Entry) → IsOneMore es more front e back → live_of e.0.tx es ≡ own_events e.0.tx front ++ own_events e.0.tx back

@@ -1,6 +1,6 @@
 -- The transactions of a station, each listed once, and in the order of their ids where the events are in the order of
 -- their keys.
-use Rattle.std.{proofs.Common.{arith, ◌≡◌, ◌⊎◌, Bool, true, false, cond, not, ◌||◌, T, List, [], ◌∷◌, ℕ, refl, ap, sym, ◌∙◌, ⊎_elim, inl, inr, map}, specs.Prelude.{filter, count_by, nat_lt, ◌+◌}, specs.List.{list_any, AllByRecursion}, specs.List.Sorted.IsStrictlySortedBy, specs.Str.bytes_eq, specs.Ordering.{nat_cmp, ordering_then, is_lt}, specs.declared.cmp.Ordering.TheVariants.{Less, Equal, Greater}, specs.Cmp.Lexicographic.slice_cmp, specs.FinMap.{entries_sorted, slice_cmp-IsAntisymmetric, nat_cmp-IsAntisymmetric}, specs.FinMap.Entries.below_all, proofs.lemmas.Bool.{lt-ltb, true≢false}, proofs.lemmas.List.Kept.IsStrictlySortedBy-filter, proofs.lemmas.List.Sums.sum_by-cons, proofs.lemmas.Slice.Eq.bytes_eq-Decides}
+use Rattle.std.{proofs.Common.{arith, ◌≡◌, ◌⊎◌, Bool, true, false, cond, not, ◌||◌, T, List, [], ◌∷◌, ℕ, refl, ap, sym, ◌∙◌, inl, inr, map}, specs.Prelude.{filter, count_by, nat_lt, ◌+◌}, specs.List.{list_any, AllByRecursion}, specs.List.Sorted.IsStrictlySortedBy, specs.Str.bytes_eq, specs.Ordering.{nat_cmp, ordering_then, is_lt}, specs.declared.cmp.Ordering.TheVariants.{Less, Equal, Greater}, specs.Cmp.Lexicographic.slice_cmp, specs.FinMap.{entries_sorted, slice_cmp-IsAntisymmetric, nat_cmp-IsAntisymmetric}, specs.FinMap.Entries.below_all, proofs.lemmas.Bool.{cond_both, false≢true, lt-ltb}, proofs.lemmas.List.Elements.{All-filter, All-from_recursion, recursion_from_All}, proofs.lemmas.List.Kept.IsStrictlySortedBy-filter, proofs.lemmas.List.Sums.sum_by-cons, proofs.lemmas.Slice.Eq.bytes_eq-Decides}
 use Rattle.ledger_model.{specs.Key.{KeyName, key_cmp}, specs.Content.{Content, Entry, entries, live, distinct, transactions_of, has_transaction}, specs.Entries.IsRising, proofs.Rising.{first, second, live_rising}, proofs.SumsByTransaction.once}
 pub use Rattle.ledger_model.proofs.Transactions.{any-map}
 
@@ -43,24 +43,18 @@ texts_after key (e ∷ es) h = (
   texts_after key es (second _ _ h),
 )
 
-all_filter : (P : List ℕ → Type 0) (p : List ℕ → Bool) (xs : List (List ℕ)) → AllByRecursion P xs → AllByRecursion P (filter p xs)
-all_filter P p [] h = tt
-all_filter P p (x ∷ xs) h =
-    elim (p x) as (λ b. AllByRecursion P (cond b (x ∷ filter p xs) (filter p xs))) [ true ↦ (h.0, all_filter P p xs h.1) | false ↦ all_filter P p xs h.1 ]
-
 all_distinct : (P : List ℕ → Type 0) (xs : List (List ℕ)) → AllByRecursion P xs → AllByRecursion P (distinct xs)
 all_distinct P [] h = tt
-all_distinct P (x ∷ xs) h = (h.0, all_filter P (λ y. not (bytes_eq x y)) (distinct xs) (all_distinct P xs h.1))
+all_distinct P (x ∷ xs) h =
+    let rest = All-from_recursion P (distinct xs) (all_distinct P xs h.1) in
+    (h.0, recursion_from_All P (filter (λ y. not (bytes_eq x y)) (distinct xs)) (All-filter (λ y. not (bytes_eq x y)) P (distinct xs) rest))
 
 -- without the text itself, all come after it
 all_less : (x : List ℕ) (ys : List (List ℕ)) → AllByRecursion (NotAfter x) ys → AllByRecursion (λ y. slice_cmp nat_cmp x y ≡ Less) (filter (λ y. not (bytes_eq x y)) ys)
 all_less x [] h = tt
-all_less x (y ∷ ys) h =
-    (elim (bytes_eq x y) as (λ b. bytes_eq x y ≡ b
-    → AllByRecursion (λ z. slice_cmp nat_cmp x z ≡ Less) (cond (not b) (y ∷ filter (λ z. not (bytes_eq x z)) ys) (filter (λ z. not (bytes_eq x z)) ys))) [
-      | true ↦ λ e. all_less x ys h.1
-      | false ↦ λ e. (⊎_elim (λ (less : slice_cmp nat_cmp x y ≡ Less). less) (λ (same : x ≡ y). absurd (true≢false (sym ((bytes_eq-Decides x y).1 same) ∙ e))) h.0, all_less x ys h.1)
-    ]) refl
+all_less x (y ∷ ys) h = cond_both (not (bytes_eq x y)) _ _ (AllByRecursion (λ z. slice_cmp nat_cmp x z ≡ Less))
+    (λ apart. (elim h.0 [ inl less ↦ less | inr same ↦ absurd (false≢true (ap not (sym ((bytes_eq-Decides x y).1 same)) ∙ apart)) ], all_less x ys h.1))
+    (λ same. all_less x ys h.1)
 
 rising_texts : (es : List Entry) → IsRising es → IsStrictlySortedBy (slice_cmp nat_cmp) (transactions_of es)
 unfolding IsStrictlySortedBy

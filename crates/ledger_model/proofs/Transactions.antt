@@ -1,5 +1,5 @@
 -- How many transactions there are when one entry is added, and when some are left out.
-use Rattle.std.{proofs.Common.{◌≡◌, ℕ, ◌+◌, ◌≤◌, Bool, true, false, cond, not, ◌||◌, List, [], ◌∷◌, ◌++◌, length, map, filter, refl, ap, sym, ◌∙◌, bytes_eq, arith}, specs.List.{list_any, sum_by}, proofs.lemmas.List.Folds.list_any-append, proofs.lemmas.List.Sums.sum_by-cons}
+use Rattle.std.{proofs.Common.{◌≡◌, ℕ, ◌+◌, ◌≤◌, Bool, true, false, cond, not, ◌||◌, List, [], ◌∷◌, ◌++◌, length, map, filter, refl, ap, sym, ◌∙◌, bytes_eq, arith}, specs.List.{list_any, sum_by}, proofs.lemmas.Bool.or_right, proofs.lemmas.List.Folds.list_any-append, proofs.lemmas.List.Sums.sum_by-cons}
 use Rattle.ledger_model.{specs.Content.{distinct, transactions_of, has_transaction, Entry}, proofs.SumLemmas.{passed_sum, sum_by-const, taken}, proofs.SumsByTransaction.{counts_differ_by_one, others, same_text, sum_with_one}}
 
 -- The ids of events' transactions.
@@ -20,11 +20,7 @@ pub now_there : (e : Entry) (front back : List Entry) → has_transaction e.0.tx
 now_there e front back =
     list_any-append (λ (x : Entry). bytes_eq e.0.tx x.0.tx) front (e ∷ back)
     ∙ ap (λ b. has_transaction e.0.tx front || (b || has_transaction e.0.tx back)) (same_text e.0.tx)
-    ∙ or_true (has_transaction e.0.tx front)
-  where
-    or_true : (b : Bool) → (b || true) ≡ true
-    or_true true = refl
-    or_true false = refl
+    ∙ or_right (has_transaction e.0.tx front) true refl
 
 -- an entry more is a transaction more where its transaction is new
 pub transactions_added : (es fs : List Entry) (e : Entry)
