@@ -1,5 +1,5 @@
 -- Entries in leaves: where a key belongs, and what is in front of it and behind.
-use Rattle.std.{proofs.Common.{◌≡◌, ℕ, zero, suc, ◌+◌, ◌-◌, ◌*◌, ◌<◌, ◌≤◌, List, [], ◌∷◌, ◌++◌, length, take, drop, get_or, Some, slice_get, refl, sym, ap, ◌∙◌, subst, arith, inl, inr, append_assoc, length-append}, proofs.Math.Seq.drop-nil, proofs.lemmas.Bool.cases_lt, proofs.lemmas.Bool.Decides.nat_tests, proofs.lemmas.List.{append-nil, get_or_default}}
+use Rattle.std.{proofs.Common.{nat_le, ◌≡◌, ℕ, zero, suc, ◌+◌, ◌-◌, ◌*◌, ◌<◌, ◌≤◌, List, [], ◌∷◌, ◌++◌, length, take, drop, get_or, set, Some, slice_get, refl, sym, ap, ◌∙◌, subst, arith, inl, inr, append_assoc, length-append}, proofs.Math.Seq.drop-nil, proofs.lemmas.Bool.{cases_lt, cond_both, leb-true, leb-false}, proofs.lemmas.Bool.Decides.nat_tests, proofs.lemmas.List.{append-nil, get_or_default, set-get_or}}
 use Rattle.key_index.{specs.Entries.{Entry, below, from, last_of, AreAbove, AreRising, AreBelow}, specs.Leaves.{all_of, AreFilled, first_key, begun, Belongs, NoneFit}, proofs.Orders.{below_on, below_end, from_on, from_end, above_less, cut_none, above_parts, above_both, rising_parts, below_both, below_more}}
 
 module _ {V : Type 0} where
@@ -23,11 +23,21 @@ module _ {V : Type 0} where
     | inr le ↦ rw (below_end key x (xs ++ ys) le, below_end key x xs le, from_end key x (xs ++ ys) le, from_end key x xs le) (refl, refl)
   ]
 
+  -- A leaf written over another.
+  pub all_set : (leaves : List (List (Entry V))) (at : ℕ) (leaf : List (Entry V)) → at < length leaves
+      → all_of (set leaves at leaf) ≡ all_of (take at leaves) ++ (leaf ++ all_of (drop (suc at) leaves))
+  all_set [] at leaf lt = absurd (omega arith)
+  all_set (l ∷ leaves) zero leaf lt = refl
+  all_set (l ∷ leaves) (suc at) leaf lt = ap (λ rest. l ++ rest) (all_set leaves at leaf (omega arith)) ∙ sym (append_assoc l (all_of (take at leaves)) (leaf ++ all_of (drop (suc at) leaves)))
+
   -- All entries are those in front of a leaf, its own, and those behind it.
   pub all_at : (leaves : List (List (Entry V))) (at : ℕ) → at < length leaves → all_of leaves ≡ all_of (take at leaves) ++ (get_or leaves at [] ++ all_of (drop (suc at) leaves))
-  all_at [] at lt = absurd (omega arith)
-  all_at (leaf ∷ leaves) zero lt = refl
-  all_at (leaf ∷ leaves) (suc at) lt = ap (λ l. leaf ++ l) (all_at leaves at (omega arith)) ∙ sym (append_assoc leaf (all_of (take at leaves)) (get_or leaves at [] ++ all_of (drop (suc at) leaves)))
+  all_at leaves at lt = ap all_of (sym (set-get_or leaves at [])) ∙ all_set leaves at (get_or leaves at []) lt
+
+  -- A leaf of rising entries rises.
+  pub rising_leaf : (leaves : List (List (Entry V))) (at : ℕ) → at < length leaves → AreRising (all_of leaves) → AreRising (get_or leaves at [])
+  rising_leaf leaves at lt rising = let leaf = get_or leaves at [] in let back = all_of (drop (suc at) leaves) in
+      (rising_parts leaf back (rising_parts (all_of (take at leaves)) (leaf ++ back) (subst AreRising (all_at leaves at lt) rising)).1).0
 
   -- A leaf of filled ones is filled.
   pub filled_at : (leaves : List (List (Entry V))) (at : ℕ) → AreFilled leaves → at < length leaves → 0 < length (get_or leaves at [])
@@ -43,13 +53,15 @@ module _ {V : Type 0} where
   pub begun_end : (key : ℕ) (leaf : List (Entry V)) (leaves : List (List (Entry V))) → key < first_key leaf → begun key (leaf ∷ leaves) ≡ 0
   begun_end key leaf leaves lt = grind (arith, nat_tests)
 
+  -- What is so of the count, by whether the first leaf begins there.
+  begun_cases : (P : ℕ → Type 0) (key : ℕ) (leaf : List (Entry V)) (leaves : List (List (Entry V))) → (first_key leaf ≤ key → P (suc (begun key leaves))) → (key < first_key leaf → P 0)
+      → P (begun key (leaf ∷ leaves))
+  begun_cases P key leaf leaves on end = cond_both (nat_le (first_key leaf) key) _ _ P (λ is. on (leb-true (first_key leaf) key is)) (λ is. end (leb-false (first_key leaf) key is))
+
   -- No more leaves begin there than there are.
   pub begun_within : (key : ℕ) (leaves : List (List (Entry V))) → begun key leaves ≤ length leaves
   begun_within key [] = omega arith
-  begun_within key (leaf ∷ leaves) = elim (cases_lt key (first_key leaf)) [
-    | inl lt ↦ rw (begun_end key leaf leaves lt) (omega arith)
-    | inr le ↦ rw (begun_on key leaf leaves le) (omega (arith, begun_within key leaves))
-  ]
+  begun_within key (leaf ∷ leaves) = begun_cases (λ n. n ≤ suc (length leaves)) key leaf leaves (λ on. omega (arith, begun_within key leaves)) (λ end. omega arith)
 
   -- The first key of a leaf that is above a number is above it.
   above_first : (n : ℕ) (leaf : List (Entry V)) → 0 < length leaf → AreAbove n leaf → n < first_key leaf
@@ -80,10 +92,8 @@ module _ {V : Type 0} where
   pub begun_less : (key : ℕ) (leaves : List (List (Entry V))) (at : ℕ) → at < length leaves → key < first_key (get_or leaves at []) → begun key leaves ≤ at
   begun_less key [] at lt great = absurd (omega arith)
   begun_less key (leaf ∷ leaves) zero lt great = rw (begun_end key leaf leaves great) (omega arith)
-  begun_less key (leaf ∷ leaves) (suc at) lt great = elim (cases_lt key (first_key leaf)) [
-    | inl end ↦ rw (begun_end key leaf leaves end) (omega arith)
-    | inr le ↦ rw (begun_on key leaf leaves le) (omega (arith, begun_less key leaves at (omega arith) great))
-  ]
+  begun_less key (leaf ∷ leaves) (suc at) lt great =
+      begun_cases (λ n. n ≤ suc at) key leaf leaves (λ on. omega (arith, begun_less key leaves at (omega arith) great)) (λ end. omega arith)
 
   -- The entries of a rising leaf that begins after the key are above it.
   pub leaf_above : (key : ℕ) (leaf : List (Entry V)) → AreRising leaf → key < first_key leaf → AreAbove key leaf
@@ -93,32 +103,27 @@ module _ {V : Type 0} where
   -- What comes behind the leaves counted is above the key.
   pub begun_back : (key : ℕ) (leaves : List (List (Entry V))) → AreFilled leaves → AreRising (all_of leaves) → AreAbove key (all_of (drop (begun key leaves) leaves))
   begun_back key [] filled rising = tt
-  begun_back key (leaf ∷ leaves) filled rising = elim (cases_lt key (first_key leaf)) [
-    | inl end ↦ rw (begun_end key leaf leaves end)
-        (above_both key leaf (all_of leaves) (leaf_above key leaf (rising_parts leaf (all_of leaves) rising).0 end)
-        (above_less key (first_key leaf) (all_of leaves) (omega arith) (first_below leaf leaves filled.0 rising)))
-    | inr le ↦ rw (begun_on key leaf leaves le) (begun_back key leaves filled.1 (rising_parts leaf (all_of leaves) rising).1)
-  ]
+  begun_back key (leaf ∷ leaves) filled rising = begun_cases (λ n. AreAbove key (all_of (drop n (leaf ∷ leaves)))) key leaf leaves
+      (λ on. begun_back key leaves filled.1 (rising_parts leaf (all_of leaves) rising).1)
+      (λ end. above_both key leaf (all_of leaves) (leaf_above key leaf (rising_parts leaf (all_of leaves) rising).0 end)
+      (above_less key (first_key leaf) (all_of leaves) (omega arith) (first_below leaf leaves filled.0 rising)))
 
   -- A leaf in front of one that is counted is below the key.
   front_leaf : (key : ℕ) (leaf : List (Entry V)) (leaves : List (List (Entry V))) → AreFilled leaves → AreRising (leaf ++ all_of leaves) → 0 < begun key leaves → AreBelow key leaf
   front_leaf key leaf [] filled rising some = absurd (omega arith)
   front_leaf key leaf ([] ∷ leaves) filled rising some = absurd (omega (arith, filled.0))
-  front_leaf key leaf ((y ∷ next) ∷ leaves) filled rising some = elim (cases_lt key y.0) [
-    | inl end ↦ let none = begun_end key (y ∷ next) leaves end in absurd (omega (arith, none))
-    | inr le ↦ below_more y.0 key leaf le (rising_front leaf y (next ++ all_of leaves) rising)
-  ]
+  front_leaf key leaf ((y ∷ next) ∷ leaves) filled rising some = begun_cases (λ n. 0 < n → AreBelow key leaf) key (y ∷ next) leaves
+      (λ on counted. below_more y.0 key leaf on (rising_front leaf y (next ++ all_of leaves) rising))
+      (λ end none. absurd (omega arith)) some
 
   -- What is in front of the last leaf counted is below the key.
   front_counted : (key : ℕ) (leaves : List (List (Entry V))) (b : ℕ) → AreFilled leaves → AreRising (all_of leaves) → b ≤ begun key leaves - 1 → AreBelow key (all_of (take b leaves))
   front_counted key leaves zero filled rising le = tt
   front_counted key [] (suc b) filled rising le = tt
-  front_counted key (leaf ∷ leaves) (suc b) filled rising le = elim (cases_lt key (first_key leaf)) [
-    | inl end ↦ let none = begun_end key leaf leaves end in absurd (omega (arith, none))
-    | inr on ↦ let count = begun_on key leaf leaves on in
-        below_both key leaf (all_of (take b leaves)) (front_leaf key leaf leaves filled.1 rising (omega (arith, count)))
-        (front_counted key leaves b filled.1 (rising_parts leaf (all_of leaves) rising).1 (omega (arith, count)))
-  ]
+  front_counted key (leaf ∷ leaves) (suc b) filled rising le = begun_cases (λ n. suc b ≤ n - 1 → AreBelow key (leaf ++ all_of (take b leaves))) key leaf leaves
+      (λ on few. below_both key leaf (all_of (take b leaves)) (front_leaf key leaf leaves filled.1 rising (omega arith))
+      (front_counted key leaves b filled.1 (rising_parts leaf (all_of leaves) rising).1 (omega arith)))
+      (λ end none. absurd (omega arith)) le
 
   -- What is above the key behind some leaves is so behind one more.
   behind_more : (key : ℕ) (leaves : List (List (Entry V))) (b at : ℕ) → b ≤ at → AreAbove key (all_of (drop b leaves)) → AreAbove key (all_of (drop at leaves))

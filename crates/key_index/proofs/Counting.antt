@@ -1,5 +1,5 @@
 -- How many entries have a mark, after an edit.
-use Rattle.std.{proofs.Common.{◌≡◌, ℕ, zero, suc, ◌+◌, ◌-◌, ◌<◌, ◌≤◌, true, false, cond, List, [], ◌∷◌, ◌++◌, length, take, drop, get_or, set, refl, sym, ap, ◌∙◌, arith, length-append, length-drop, take-append-drop}, proofs.lemmas.List.take_all, specs.List.{insert, remove}, proofs.lemmas.List.Elements.filter-append}
+use Rattle.std.{proofs.Common.{◌≡◌, ℕ, zero, suc, ◌+◌, ◌-◌, ◌<◌, ◌≤◌, true, false, cond, List, [], ◌∷◌, ◌++◌, length, take, drop, get_or, set, refl, sym, ap, ◌∙◌, arith, length-append, length-drop, take-append-drop}, proofs.lemmas.List.take_all, specs.List.{insert, remove}, proofs.lemmas.List.Elements.filter-append, proofs.lemmas.List.Sums.{count_by-le-length, length-filter}}
 use Rattle.key_index.{specs.declared.filed.Mark.Mark, specs.declared.filed.Marks.Marks, specs.Entries.Entry, specs.Marks.{has_mark, weigh, marked, with_marks, mark_at}}
 
 module _ {V : Type 0} where
@@ -21,10 +21,7 @@ module _ {V : Type 0} where
 
   -- No more are marked than there are.
   pub count_within : (m : Mark) (es : List (Entry V)) → length (marked m es) ≤ length es
-  count_within m [] = omega arith
-  count_within m (e ∷ es) =
-      elim (has_mark m e.1.marks) as (λ b. length (cond b (e ∷ marked m es) (marked m es))
-      ≤ suc (length es)) [ true ↦ omega (arith, count_within m es) | false ↦ omega (arith, count_within m es) ]
+  count_within m es = omega (arith, length-filter (λ (e : Entry V). has_mark m e.1.marks) es, count_by-le-length (λ (e : Entry V). has_mark m e.1.marks) es)
 
   -- An entry put in.
   pub count_put : (m : Mark) (es : List (Entry V)) (i : ℕ) (e : Entry V) → length (marked m (insert es i e)) ≡ length (marked m es) + weigh (has_mark m e.1.marks)

@@ -1,15 +1,8 @@
 -- The edits of leaves: an entry put in or taken out, a leaf split, two joined, one that is empty left out.
-use Rattle.std.{proofs.Common.{◌≡◌, ℕ, zero, suc, ◌+◌, ◌-◌, ◌<◌, ◌≤◌, List, [], ◌∷◌, ◌++◌, length, take, drop, get_or, set, refl, sym, ap, ◌∙◌, subst, arith, append_assoc, length-append, length-set, length-take, length-drop, take-append-drop}, specs.List.{copy_within, insert, remove}, proofs.lemmas.List.Edits.length-insert}
-use Rattle.key_index.{specs.Entries.{Entry, AreAbove, AreRising, AreBelow}, specs.Leaves.{all_of, AreFilled, AreEmpty, first_key, Belongs, IsReady}, proofs.Orders.{rising_parts, below_both, below_more, above_both}, proofs.Belonging.{read_leaf, all_at, rising_front, leaf_above}}
+use Rattle.std.{proofs.Common.{◌≡◌, ℕ, zero, suc, ◌+◌, ◌-◌, ◌<◌, ◌≤◌, List, [], ◌∷◌, ◌++◌, length, take, drop, get_or, set, refl, sym, ap, ◌∙◌, subst, arith, append_assoc, length-append, length-set, length-take, length-drop, take-append-drop}, specs.List.{copy_within, insert, remove}, proofs.lemmas.List.set-get_or, proofs.lemmas.List.Edits.length-insert}
+use Rattle.key_index.{specs.Entries.{Entry, AreAbove, AreRising, AreBelow}, specs.Leaves.{all_of, AreFilled, AreEmpty, first_key, Belongs, IsReady}, proofs.Orders.{rising_parts, below_both, below_more, above_both}, proofs.Belonging.{read_leaf, all_at, rising_front, rising_leaf, leaf_above}}
 
 module _ {V : Type 0} where
-  -- A leaf written over another.
-  pub all_set : (leaves : List (List (Entry V))) (at : ℕ) (leaf : List (Entry V)) → at < length leaves
-      → all_of (set leaves at leaf) ≡ all_of (take at leaves) ++ (leaf ++ all_of (drop (suc at) leaves))
-  all_set [] at leaf lt = absurd (omega arith)
-  all_set (l ∷ leaves) zero leaf lt = refl
-  all_set (l ∷ leaves) (suc at) leaf lt = ap (λ rest. l ++ rest) (all_set leaves at leaf (omega arith)) ∙ sym (append_assoc l (all_of (take at leaves)) (leaf ++ all_of (drop (suc at) leaves)))
-
   -- Filled leaves round a filled one.
   pub filled_set : (leaves : List (List (Entry V))) (at : ℕ) (leaf : List (Entry V)) → at < length leaves
       → AreFilled (take at leaves) → AreFilled (drop (suc at) leaves) → 0 < length leaf → AreFilled (set leaves at leaf)
@@ -23,33 +16,22 @@ module _ {V : Type 0} where
   filled_round (l ∷ leaves) zero lt filled = (tt, filled.1)
   filled_round (l ∷ leaves) (suc at) lt filled = let rest = filled_round leaves at (omega arith) filled.1 in ((filled.0, rest.0), rest.1)
 
-  -- Two leaves joined hold the same entries.
-  pub joined_same : (leaves : List (List (Entry V))) (at : ℕ) → suc at < length leaves → all_of (set (remove leaves (suc at)) at (get_or leaves at [] ++ get_or leaves (suc at) [])) ≡ all_of leaves
-  joined_same [] at lt = absurd (omega arith)
-  joined_same (l ∷ []) at lt = absurd (omega arith)
-  joined_same (l ∷ m ∷ leaves) zero lt = append_assoc l m (all_of leaves)
-  joined_same (l ∷ m ∷ leaves) (suc at) lt = ap (λ rest. l ++ rest) (joined_same (m ∷ leaves) at (omega arith))
-
-  -- They stay filled.
-  pub joined_filled : (leaves : List (List (Entry V))) (at : ℕ) → suc at < length leaves → AreFilled leaves
-      → AreFilled (set (remove leaves (suc at)) at (get_or leaves at [] ++ get_or leaves (suc at) []))
-  joined_filled [] at lt filled = absurd (omega arith)
-  joined_filled (l ∷ []) at lt filled = absurd (omega arith)
-  joined_filled (l ∷ m ∷ leaves) zero lt filled = (omega (arith, length-append l m, filled.0), filled.1.1)
-  joined_filled (l ∷ m ∷ leaves) (suc at) lt filled = (filled.0, joined_filled (m ∷ leaves) at (omega arith) filled.1)
+  -- Two leaves joined hold the same entries, and stay filled.
+  joined_next : (leaves : List (List (Entry V))) (at : ℕ) → suc at < length leaves → AreFilled leaves
+      → let joined = set (remove leaves (suc at)) at (get_or leaves at [] ++ get_or leaves (suc at) []) in (all_of joined ≡ all_of leaves) × AreFilled joined
+  joined_next [] at lt filled = absurd (omega arith)
+  joined_next (l ∷ []) at lt filled = absurd (omega arith)
+  joined_next (l ∷ m ∷ leaves) zero lt filled = (append_assoc l m (all_of leaves), (omega (arith, length-append l m, filled.0), filled.1.1))
+  joined_next (l ∷ m ∷ leaves) (suc at) lt filled =
+      let rest = joined_next (m ∷ leaves) at (omega arith) filled.1 in
+      (ap (λ es. l ++ es) rest.0, (filled.0, rest.1))
 
   -- The same, with the second place given by a number.
-  pub joined_same_at : (leaves : List (List (Entry V))) (at i : ℕ) → i ≡ suc at → i < length leaves → all_of (set (remove leaves i) at (get_or leaves at [] ++ get_or leaves i [])) ≡ all_of leaves
-  joined_same_at leaves at i up lt =
-      let P : ℕ → Type 0 = λ n. all_of (set (remove leaves n) at (get_or leaves at [] ++ get_or leaves n [])) ≡ all_of leaves in
-      subst P (sym up) (joined_same leaves at (omega (arith, up, lt)))
-
-  -- They stay filled, given so too.
-  pub joined_filled_at : (leaves : List (List (Entry V))) (at i : ℕ) → i ≡ suc at → i < length leaves → AreFilled leaves
-      → AreFilled (set (remove leaves i) at (get_or leaves at [] ++ get_or leaves i []))
-  joined_filled_at leaves at i up lt filled =
-      let P : ℕ → Type 0 = λ n. AreFilled (set (remove leaves n) at (get_or leaves at [] ++ get_or leaves n [])) in
-      subst P (sym up) (joined_filled leaves at (omega (arith, up, lt)) filled)
+  pub joined : (leaves : List (List (Entry V))) (at i : ℕ) → i ≡ suc at → i < length leaves → AreFilled leaves
+      → let joined = set (remove leaves i) at (get_or leaves at [] ++ get_or leaves i []) in (all_of joined ≡ all_of leaves) × AreFilled joined
+  joined leaves at i up lt filled =
+      let P : ℕ → Type 0 = λ n. let joined = set (remove leaves n) at (get_or leaves at [] ++ get_or leaves n []) in (all_of joined ≡ all_of leaves) × AreFilled joined in
+      subst P (sym up) (joined_next leaves at (omega (arith, up, lt)) filled)
 
   -- A leaf split in two, seen from the first half and from the second.
   pub record IsSplit (leaves new : List (List (Entry V))) (at : ℕ) (a b : List (Entry V)) : Type 0 where
@@ -91,9 +73,7 @@ module _ {V : Type 0} where
   -- Filled round a leaf and in it.
   pub filled_whole : (leaves : List (List (Entry V))) (at : ℕ) → at < length leaves → AreFilled (take at leaves)
       → AreFilled (drop (suc at) leaves) → 0 < length (get_or leaves at []) → AreFilled leaves
-  filled_whole [] at lt front back some = absurd (omega arith)
-  filled_whole (l ∷ leaves) zero lt front back some = (some, back)
-  filled_whole (l ∷ leaves) (suc at) lt front back some = (front.0, filled_whole leaves at (omega arith) front.1 back some)
+  filled_whole leaves at lt front back some = subst AreFilled (set-get_or leaves at []) (filled_set leaves at (get_or leaves at []) lt front back some)
 
   -- Empty leaves in two parts.
   pub empty_parts : (ls ms : List (List (Entry V))) → AreEmpty (ls ++ ms) → AreEmpty ls × AreEmpty ms
@@ -104,11 +84,6 @@ module _ {V : Type 0} where
   pub empty_more : (ls : List (List (Entry V))) (l : List (Entry V)) → AreEmpty ls → l ≡ [] → AreEmpty (ls ++ l ∷ [])
   empty_more [] l e is = (is, tt)
   empty_more (k ∷ ls) l e is = (e.0, empty_more ls l e.1 is)
-
-  -- A list of no entries is empty.
-  pub none_is : (l : List (Entry V)) → length l ≤ 0 → l ≡ []
-  none_is [] none = refl
-  none_is (x ∷ l) none = absurd (omega arith)
 
   -- A rising list in front of a key that it does not reach is below it.
   under : (key : ℕ) (a b : List (Entry V)) → AreRising (a ++ b) → 0 < length b → first_key b ≤ key → AreBelow key a
@@ -152,9 +127,7 @@ module _ {V : Type 0} where
 
     -- The leaf rises.
     rising_whole : AreRising whole
-    rising_whole =
-        (rising_parts whole (all_of (drop (suc at) old))
-        (rising_parts (all_of (take at old)) (whole ++ all_of (drop (suc at) old)) (subst AreRising (all_at old at belongs.within) rising)).1).0
+    rising_whole = rising_leaf old at belongs.within rising
 
     -- So do its halves.
     rising_halves : AreRising (lower ++ upper)

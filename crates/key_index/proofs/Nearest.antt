@@ -1,6 +1,6 @@
 -- The nearest entry with a mark.
-use Rattle.std.{proofs.Common.{◌≡◌, ℕ, zero, suc, ◌+◌, ◌<◌, true, cond, List, [], ◌∷◌, ◌++◌, Some, None, length, take, drop, get_or, refl, sym, ap, ◌∙◌, arith, append_assoc}, proofs.lemmas.List.append-nil, proofs.lemmas.List.Elements.filter_more}
-use Rattle.key_index.{specs.declared.filed.Mark.Mark, specs.Entries.{Entry, first_of, last_of}, specs.Marks.{has_mark, marked}, specs.Leaves.all_of, proofs.Belonging.{last_both, read_leaf}, proofs.Counting.{marked_both, count_cut}, proofs.Edits.none_is}
+use Rattle.std.{proofs.Common.{◌≡◌, ℕ, zero, suc, ◌+◌, ◌<◌, true, cond, List, [], ◌∷◌, ◌++◌, Some, None, length, take, drop, get_or, refl, sym, ap, ◌∙◌, arith, append_assoc}, proofs.lemmas.List.{append-nil, nil_from_length}, proofs.lemmas.List.Elements.filter_more}
+use Rattle.key_index.{specs.declared.filed.Mark.Mark, specs.Entries.{Entry, first_of, last_of}, specs.Marks.{has_mark, marked}, specs.Leaves.all_of, proofs.Belonging.{last_both, read_leaf}, proofs.Counting.{marked_both, count_cut}}
 
 module _ {V : Type 0} where
   -- The last entry that was looked at, where it has the mark.
@@ -12,11 +12,11 @@ module _ {V : Type 0} where
 
   -- Where none of a leaf has the mark, none in front of a place has.
   pub none_front : (m : Mark) (es : List (Entry V)) (i : ℕ) → length (marked m es) ≡ 0 → marked m (take i es) ≡ []
-  none_front m es i none = none_is (marked m (take i es)) (omega (arith, count_cut m i es, none))
+  none_front m es i none = nil_from_length (marked m (take i es)) (omega (arith, count_cut m i es, none))
 
   -- Nor from it on.
   pub none_back : (m : Mark) (es : List (Entry V)) (i : ℕ) → length (marked m es) ≡ 0 → marked m (drop i es) ≡ []
-  none_back m es i none = none_is (marked m (drop i es)) (omega (arith, count_cut m i es, none))
+  none_back m es i none = nil_from_length (marked m (drop i es)) (omega (arith, count_cut m i es, none))
 
   -- A list that is not empty has a last entry.
   last_some : (y : Entry V) (ys : List (Entry V)) → (e : Entry V) × (last_of (y ∷ ys) ≡ Some e)
@@ -66,7 +66,7 @@ module _ {V : Type 0} where
       let here = read_leaf ls i leaf lt read in let next : j ≡ suc i = omega (arith, up) in
       sym (ap (λ n. marked m (all_of (take n ls))) next ∙ ap (marked m) (all_more ls i lt) ∙ marked_both m (all_of (take i ls)) (get_or ls i [])
       ∙ ap (λ l. marked m (all_of (take i ls)) ++ marked m l) (sym here)
-      ∙ ap (λ l. marked m (all_of (take i ls)) ++ l) (none_is (marked m leaf) (omega (arith, none)))
+      ∙ ap (λ l. marked m (all_of (take i ls)) ++ l) (nil_from_length (marked m leaf) (omega (arith, none)))
       ∙ append-nil (marked m (all_of (take i ls))))
 
   -- One that has some has the last.

@@ -1,5 +1,5 @@
 -- Entries in rising order, cut at a key.
-use Rattle.std.{proofs.Common.{◌≡◌, ℕ, zero, suc, ◌-◌, ◌<◌, ◌≤◌, List, [], ◌∷◌, ◌++◌, length, take, drop, get_or, slice_get, refl, sym, ap, ◌∙◌, cond, Some, None, arith, inl, inr, length-append}, proofs.lemmas.Bool.{cases_lt, eq-eqb}, proofs.lemmas.Bool.Decides.nat_tests}
+use Rattle.std.{proofs.Common.{◌≡◌, ℕ, zero, suc, ◌-◌, ◌<◌, ◌≤◌, List, [], ◌∷◌, ◌++◌, length, take, drop, get_or, slice_get, refl, sym, ap, ◌∙◌, cond, nat_lt, Bool, true, false, Some, None, arith, length-append}, proofs.lemmas.Bool.{eq-eqb, ltb-true, ltb-false}, proofs.lemmas.List.{drop_at, take_at}, proofs.lemmas.Bool.Decides.nat_tests}
 use Rattle.key_index.specs.Entries.{below, from, filed_at, first_of, last_of, AreAbove, AreRising, AreBelow}
 
 module _ {X : Type 0} where
@@ -19,13 +19,19 @@ module _ {X : Type 0} where
   pub from_end : (key : ℕ) (e : ℕ × X) (es : List (ℕ × X)) → key ≤ e.0 → from key (e ∷ es) ≡ e ∷ es
   from_end key e es le = grind (arith, nat_tests)
 
+  -- What is so of what is in front of a key and of what is left, by whether the first entry is before the key.
+  pub cut_cases : (P : List (ℕ × X) → List (ℕ × X) → Type 0) (key : ℕ) (e : ℕ × X) (es : List (ℕ × X)) → (e.0 < key → P (e ∷ below key es) (from key es)) → (key ≤ e.0 → P [] (e ∷ es))
+      → P (below key (e ∷ es)) (from key (e ∷ es))
+  cut_cases P key e es on end = by_case (nat_lt e.0 key) (λ is. on (ltb-true e.0 key is)) (λ is. end (ltb-false e.0 key is))
+    where
+      by_case : (b : Bool) → (b ≡ true → P (e ∷ below key es) (from key es)) → (b ≡ false → P [] (e ∷ es)) → P (cond b (e ∷ below key es) []) (cond b (from key es) (e ∷ es))
+      by_case true small great = small refl
+      by_case false small great = great refl
+
   -- What is in front and what is left are the whole.
   pub cut_whole : (key : ℕ) (es : List (ℕ × X)) → below key es ++ from key es ≡ es
   cut_whole key [] = refl
-  cut_whole key (e ∷ es) = elim (cases_lt e.0 key) [
-    | inl lt ↦ rw (below_on key e es lt, from_on key e es lt) (ap (λ rest. e ∷ rest) (cut_whole key es))
-    | inr le ↦ rw (below_end key e es le, from_end key e es le) refl
-  ]
+  cut_whole key (e ∷ es) = cut_cases (λ front back. front ++ back ≡ e ∷ es) key e es (λ lt. ap (λ rest. e ∷ rest) (cut_whole key es)) (λ le. refl)
 
   -- No more are in front than there are.
   pub below_within : (key : ℕ) (es : List (ℕ × X)) → length (below key es) ≤ length es
@@ -33,19 +39,11 @@ module _ {X : Type 0} where
 
   -- What is in front is the part up to the key's place.
   pub take_below : (key : ℕ) (es : List (ℕ × X)) → take (length (below key es)) es ≡ below key es
-  take_below key [] = refl
-  take_below key (e ∷ es) = elim (cases_lt e.0 key) [
-    | inl lt ↦ rw (below_on key e es lt) (ap (λ rest. e ∷ rest) (take_below key es))
-    | inr le ↦ rw (below_end key e es le) refl
-  ]
+  take_below key es = ap (take (length (below key es))) (sym (cut_whole key es)) ∙ take_at (below key es) (from key es) (length (below key es)) refl
 
   -- What is left is the part from the key's place on.
   pub drop_below : (key : ℕ) (es : List (ℕ × X)) → drop (length (below key es)) es ≡ from key es
-  drop_below key [] = refl
-  drop_below key (e ∷ es) = elim (cases_lt e.0 key) [
-    | inl lt ↦ rw (below_on key e es lt, from_on key e es lt) (drop_below key es)
-    | inr le ↦ rw (below_end key e es le, from_end key e es le) refl
-  ]
+  drop_below key es = ap (drop (length (below key es))) (sym (cut_whole key es)) ∙ drop_at (below key es) (from key es) (length (below key es)) refl
 
   -- Keys above a number are above a smaller one.
   pub above_less : (m n : ℕ) (es : List (ℕ × X)) → m ≤ n → AreAbove n es → AreAbove m es
@@ -106,19 +104,13 @@ module _ {X : Type 0} where
   pub place_less : (key : ℕ) (es : List (ℕ × X)) (i : ℕ) (d : ℕ × X) → i < length es → key ≤ (get_or es i d).0 → length (below key es) ≤ i
   place_less key [] i d lt great = absurd (omega arith)
   place_less key (e ∷ es) zero d lt great = rw (below_end key e es great) (omega arith)
-  place_less key (e ∷ es) (suc i) d lt great = elim (cases_lt e.0 key) [
-    | inl small ↦ rw (below_on key e es small) (omega (arith, place_less key es i d (omega arith) great))
-    | inr le ↦ rw (below_end key e es le) (omega arith)
-  ]
+  place_less key (e ∷ es) (suc i) d lt great =
+      cut_cases (λ front back. length front ≤ suc i) key e es (λ small. omega (arith, place_less key es i d (omega arith) great)) (λ le. omega arith)
 
   -- The first entry from a key on has the key, where it is not behind it.
   pub first_filed : (key : ℕ) (es : List (ℕ × X)) (e : ℕ × X) → first_of (from key es) ≡ Some e → e.0 ≤ key → filed_at key (from key es) ≡ Some e.1
   first_filed key [] e is le = cc
-  first_filed key (x ∷ xs) e is le = elim (cases_lt x.0 key) [
-    | inl lt ↦ rw (from_on key x xs lt) (first_filed key xs e (sym (ap first_of (from_on key x xs lt)) ∙ is) le)
-    | inr ge ↦ let same : x ≡ e = here (sym (ap first_of (from_end key x xs ge)) ∙ is) in let level : x.0 ≡ key = omega (arith, ap (λ (y : ℕ × X). y.0) same) in
-        rw (from_end key x xs ge) (ap (λ b. cond b (Some x.1) None) (eq-eqb x.0 key level) ∙ ap (λ (y : ℕ × X). Some y.1) same)
-  ]
-    where
-      here : Some x ≡ Some e → x ≡ e
-      here h = cc
+  first_filed key (x ∷ xs) e is le = cut_cases (λ front back. first_of back ≡ Some e → filed_at key back ≡ Some e.1) key x xs
+      (λ lt there. first_filed key xs e there le)
+      (λ ge here. let same : x ≡ e = cc in let level : x.0 ≡ key = omega (arith, ap (λ (y : ℕ × X). y.0) same) in
+      ap (λ b. cond b (Some x.1) None) (eq-eqb x.0 key level) ∙ ap (λ (y : ℕ × X). Some y.1) same) is

@@ -1,6 +1,6 @@
 -- Places in an index, and edits at them.
-use Rattle.std.{proofs.Common.{◌≡◌, ℕ, zero, suc, ◌<◌, ◌≤◌, List, [], ◌∷◌, ◌++◌, Some, length, take, drop, get_or, set, refl, sym, ap, ◌∙◌, subst, arith, inl, inr, append_assoc, take-append-drop}, specs.List.insert, proofs.lemmas.Bool.cases_lt, proofs.lemmas.List.append-nil}
-use Rattle.key_index.{specs.declared.filed.Marks.Marks, specs.declared.place.KeyPlace.KeyPlace, specs.Entries.{Entry, below, from, first_of, last_of, AreAbove, AreRising, AreBelow}, specs.Leaves.{all_of, Belongs}, specs.Marks.mark_at, specs.Places.{in_front, on_from, IsCutAt, IsPlace}, proofs.Orders.{below_on, below_end, from_on, from_end, take_below, drop_below, rising_parts}, proofs.Belonging.{all_at, last_both, cut_front}, proofs.Edits.all_set, proofs.Cuts.{below_at, from_at}}
+use Rattle.std.{proofs.Common.{◌≡◌, ℕ, zero, suc, ◌<◌, ◌≤◌, List, [], ◌∷◌, ◌++◌, Some, length, take, drop, get_or, set, refl, sym, ap, ◌∙◌, subst, arith, append_assoc, take-append-drop}, specs.List.insert, proofs.lemmas.List.append-nil}
+use Rattle.key_index.{specs.declared.filed.Marks.Marks, specs.declared.place.KeyPlace.KeyPlace, specs.Entries.{Entry, below, from, first_of, last_of, AreAbove, AreRising, AreBelow}, specs.Leaves.{all_of, Belongs}, specs.Marks.mark_at, specs.Places.{in_front, on_from, IsCutAt, IsPlace}, proofs.Orders.{below_end, from_end, cut_cases, take_below, drop_below, rising_parts}, proofs.Belonging.{all_at, all_set, last_both, cut_front}, proofs.Cuts.{below_at, edited, from_at}}
 
 module _ {V : Type 0} where
   -- A place parts all entries.
@@ -75,24 +75,17 @@ module _ {V : Type 0} where
   pub mark_all : (marks : Marks) (key : ℕ) (ls : List (List (Entry V))) (at : ℕ) → Belongs key ls at → 0 < length (from key (get_or ls at []))
       → all_of (set ls at (mark_at marks (length (below key (get_or ls at []))) (get_or ls at []))) ≡ below key (all_of ls) ++ mark_at marks 0 (from key (all_of ls))
   mark_all marks key ls at b some =
-      let front = all_of (take at ls) in let leaf = get_or ls at [] in let back = all_of (drop (suc at) ls) in let n = length (below key leaf) in let rest = mark_at marks 0 (from key leaf) in
-      let cut : mark_at marks n leaf ≡ below key leaf ++ rest = mark_parts marks n leaf ∙ (λ j. take_below key leaf j ++ mark_at marks 0 (drop_below key leaf j)) in
-      all_set ls at (mark_at marks n leaf) b.within ∙ ap (λ l. front ++ (l ++ back)) cut
-      ∙ ap (λ l. front ++ l) (append_assoc (below key leaf) rest back) ∙ sym (append_assoc front (below key leaf) (rest ++ back))
-      ∙ ap (λ l. (front ++ below key leaf) ++ l) (sym (first_set marks (from key leaf) back some)) ∙ (λ j. sym (below_at key ls at b) j ++ mark_at marks 0 (sym (from_at key ls at b) j))
+      let leaf = get_or ls at [] in let n = length (below key leaf) in let rest = mark_at marks 0 (from key leaf) in
+      edited key ls at _ rest b (mark_parts marks n leaf ∙ (λ j. take_below key leaf j ++ mark_at marks 0 (drop_below key leaf j)))
+      ∙ ap (λ l. below key (all_of ls) ++ l) (sym (first_set marks (from key leaf) (all_of (drop (suc at) ls)) some) ∙ ap (mark_at marks 0) (sym (from_at key ls at b)))
 
   -- Entries above a number stay so with one marked.
   above_mark : (marks : Marks) (n key : ℕ) (es : List (Entry V)) → AreAbove n es → AreAbove n (below key es ++ mark_at marks 0 (from key es))
   above_mark marks n key [] above = tt
-  above_mark marks n key (e ∷ es) above = elim (cases_lt e.0 key) [
-    | inl on ↦ rw (below_on key e es on, from_on key e es on) (above.0, above_mark marks n key es above.1)
-    | inr le ↦ rw (below_end key e es le, from_end key e es le) above
-  ]
+  above_mark marks n key (e ∷ es) above = cut_cases (λ front back. AreAbove n (front ++ mark_at marks 0 back)) key e es (λ on. (above.0, above_mark marks n key es above.1)) (λ le. above)
 
   -- Rising entries rise with one marked.
   pub rising_mark : (marks : Marks) (key : ℕ) (es : List (Entry V)) → AreRising es → AreRising (below key es ++ mark_at marks 0 (from key es))
   rising_mark marks key [] rising = tt
-  rising_mark marks key (e ∷ es) rising = elim (cases_lt e.0 key) [
-    | inl on ↦ rw (below_on key e es on, from_on key e es on) (above_mark marks e.0 key es rising.0, rising_mark marks key es rising.1)
-    | inr le ↦ rw (below_end key e es le, from_end key e es le) rising
-  ]
+  rising_mark marks key (e ∷ es) rising =
+      cut_cases (λ front back. AreRising (front ++ mark_at marks 0 back)) key e es (λ on. (above_mark marks e.0 key es rising.0, rising_mark marks key es rising.1)) (λ le. rising)

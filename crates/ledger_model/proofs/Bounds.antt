@@ -1,7 +1,7 @@
 -- What a reached content holds: as much as the limits allow, and entries in range.
-use Rattle.std.{proofs.Common.{◌≡◌, ℕ, zero, suc, ◌+◌, ◌<◌, ◌≤◌, Bool, true, false, not, ◌&&◌, cond, nat_le, List, [], ◌∷◌, length, Option, Some, refl, sym, ap, subst, ◌∙◌, arith, is_some}, specs.List.filter, specs.Ordering.{is_eq, eq_by_cmp}, specs.declared.cmp.Ordering.Ordering, specs.declared.cmp.Ordering.TheVariants.{Less, Equal, Greater}, specs.FinMap.{find, put, entries_sorted}, specs.FinMap.Entries.{by_order, length-put}, proofs.lemmas.Bool.{leb-false, ltb-false}}
+use Rattle.std.{proofs.Common.{◌≡◌, ℕ, zero, suc, ◌+◌, ◌<◌, ◌≤◌, Bool, true, false, not, ◌&&◌, cond, nat_le, List, [], ◌∷◌, ◌++◌, length, Some, refl, sym, ap, subst, ◌∙◌, arith}, specs.List.{filter, sum_by}, specs.Ordering.eq_by_cmp, specs.FinMap.{find, put, entries_sorted}, proofs.lemmas.List.length-map, proofs.lemmas.List.Filters.sum_by-filter_both, proofs.lemmas.List.Sums.{count_by-le-length, length-filter}, proofs.lemmas.Bool.{leb-false, ltb-false}}
 use Rattle.std.specs.FinMap as finite
-use Rattle.ledger_model.{specs.declared.command.Command.Command, specs.declared.command.Command.TheVariants.{Deliver, Void, Restore, Erase}, specs.declared.answer.Answer.Answer, specs.declared.answer.Answer.TheVariants.Accepted, specs.Key.{KeyName, key_cmp, IsKeyName}, specs.Event.{EventContent, IsEventContent}, specs.Limits.Bounds, specs.Content.{Content, Entry, Stored, entries, distinct, transactions_of, has_transaction}, specs.Entries.{IsRising, entries_marked, entries_marked_at, entries_without, entries_after}, specs.Admissible.IsAdmissible, specs.Step.{readings_stored, step, content_after, Reached}, specs.Laws.IsAccepted, proofs.Keys.key_total, proofs.Stored.{readings_put_old, length_without, readings_without, transactions-filter, ids_put_old}, proofs.ListedRuns.{entries_after_is, none_listed}, proofs.LedgerLemmas.{found_live, found_voided}, proofs.Deliveries.{room, grown, fresh}}
+use Rattle.ledger_model.{specs.declared.command.Command.Command, specs.declared.command.Command.TheVariants.{Deliver, Void, Restore, Erase}, specs.declared.answer.Answer.Answer, specs.declared.answer.Answer.TheVariants.Accepted, specs.Key.{KeyName, key_cmp, IsKeyName}, specs.Event.{EventContent, IsEventContent}, specs.Limits.Bounds, specs.Content.{Content, Entry, Stored, entries, distinct, transactions_of, has_transaction}, specs.Entries.{IsRising, entries_marked, entries_marked_at, entries_without, entries_after}, specs.Admissible.IsAdmissible, specs.Step.{readings_stored, step, content_after, Reached}, specs.Laws.IsAccepted, proofs.Keys.key_total, proofs.Cuts.{behind, cut, cut_at, in_front, map_put_old}, proofs.SumLemmas.sum_by-map, proofs.Transactions.transactions-filter, proofs.ListedRuns.{entries_after_is, none_listed}, proofs.LedgerLemmas.{found_live, found_voided}, proofs.Deliveries.{room, grown, fresh}}
 
 -- an entry whose key and event are in range
 pub record IsEntry (e : Entry) : Type 0 where
@@ -18,24 +18,18 @@ AreEntries-filter p (e ∷ es) h =
     let rest = AreEntries-filter p es h.1 in
     elim (p e) as (λ b. AreEntries (cond b (e ∷ filter p es) (filter p es))) [ true ↦ (h.0, rest) | false ↦ rest ]
 
-AreEntries-put : (key : KeyName) (v : Stored) (es : List Entry) → IsKeyName key → IsEventContent v.event → AreEntries es → AreEntries (put key_cmp key v es)
-AreEntries-put key v [] k event h = (record { key = k; event = event }, tt)
-AreEntries-put key v (e ∷ es) k event h =
-    elim (key_cmp key e.0) as (λ (o : Ordering). AreEntries (by_order o ((key, v) ∷ e ∷ es) ((e.0, v) ∷ es) (e ∷ put key_cmp key v es))) [
-      | Less ↦ (record { key = k; event = event }, h)
-      | Equal ↦ (record { key = h.0.key; event = event }, h.1)
-      | Greater ↦ (h.0, AreEntries-put key v es k event h.1)
-    ]
+AreEntries-append : (es fs : List Entry) → AreEntries es → AreEntries fs → AreEntries (es ++ fs)
+AreEntries-append [] fs h k = k
+AreEntries-append (e ∷ es) fs h k = (h.0, AreEntries-append es fs h.1 k)
 
--- what is under a key is in range
-AreEntries-find : (key : KeyName) (s : Stored) (es : List Entry) → AreEntries es → find key_cmp key es ≡ Some s → IsEventContent s.event
-AreEntries-find key s [] h is = cc
-AreEntries-find key s (e ∷ es) h is =
-    elim (key_cmp key e.0) as (λ (o : Ordering). cond (is_eq o) (Some e.1) (find key_cmp key es) ≡ Some s → IsEventContent s.event) [
-      | Less ↦ λ some. AreEntries-find key s es h.1 some
-      | Equal ↦ λ some. let same : e.1 ≡ s = cc in subst (λ (t : Stored). IsEventContent t.event) same h.0.event
-      | Greater ↦ λ some. AreEntries-find key s es h.1 some
-    ] is
+AreEntries-put : (key : KeyName) (v : Stored) (es : List Entry) → IsRising es → IsKeyName key → IsEventContent v.event → AreEntries es → AreEntries (put key_cmp key v es)
+AreEntries-put key v es rising k event h = subst AreEntries (sym ((cut key es rising).with_put v))
+    (AreEntries-append (in_front key es) ((key, v) ∷ behind key es) (AreEntries-filter _ es h) (record { key = k; event = event }, AreEntries-filter _ es h))
+
+-- an entry between others is in range
+entry_at : (es : List Entry) (e : Entry) (fs : List Entry) → AreEntries (es ++ e ∷ fs) → IsEntry e
+entry_at [] e fs h = h.0
+entry_at (d ∷ es) e fs h = entry_at es e fs h.1
 
 -- entries within the limits, each in range
 pub record AreKept (limits : Bounds) (es : List Entry) : Type 0 where
@@ -67,7 +61,7 @@ module _ (limits : Bounds) (c : Content) (kept : AreKept limits (entries c)) whe
         events = omega (arith, ap length is, g.events);
         readings = omega (arith, ap readings_stored is, g.readings);
         transactions = omega (arith, few, ap (λ es. length (transactions_of es)) is, g.transactions);
-        in_range = AreEntries-put key v (entries c) may.0 may.1 kept.in_range;
+        in_range = AreEntries-put key v (entries c) (entries_sorted c.events) may.0 may.1 kept.in_range;
       }
 
   AreKept-mark : (key : KeyName) (voided : Bool) (s : Stored) → IsKeyName key → finite.get c.events key ≡ Some s → AreKept limits (entries_marked (entries c) key voided)
@@ -77,22 +71,23 @@ module _ (limits : Bounds) (c : Content) (kept : AreKept limits (entries c)) whe
       let v : Stored = record { event = s.event; voided = voided } in
       let is : find key_cmp key es ≡ Some s = sym (finite.get-entries c.events key) ∙ found in
       let marks : entries_marked es key voided ≡ put key_cmp key v es = ap (entries_marked_at es key voided) is in
-      let long : length (put key_cmp key v es) ≡ length es = length-put key_cmp key_total key v es rising ∙ ap (λ (o : Option Stored). cond (is_some o) (length es) (length es + 1)) is in
-      let ids = ap (λ ts. length (distinct ts)) (ids_put_old key v s es rising is) in
+      let size : Entry → ℕ = λ e. length e.1.event.readings in
+      let ids = map_put_old key (λ (e : Entry). e.0.tx) v s es rising is refl in
       subst (AreKept limits) (sym marks) (record {
-        events = omega (arith, long, kept.events);
-        readings = omega (arith, readings_put_old key v s es rising is refl, kept.readings);
-        transactions = omega (arith, ids, kept.transactions);
-        in_range = AreEntries-put key v es may (AreEntries-find key s es kept.in_range is) kept.in_range;
+        events = omega (arith, length-map (put key_cmp key v es) (λ (e : Entry). e.0.tx), length-map es (λ (e : Entry). e.0.tx), ap length ids, kept.events);
+        readings = omega (arith, sum_by-map (λ n. n) size (put key_cmp key v es), sum_by-map (λ n. n) size es, ap (sum_by (λ n. n)) (map_put_old key size v s es rising is refl), kept.readings);
+        transactions = omega (arith, ap (λ ts. length (distinct ts)) ids, kept.transactions);
+        in_range = AreEntries-put key v es rising may (entry_at (in_front key es) (key, s) (behind key es) (subst AreEntries (cut_at key s es rising is) kept.in_range)).event kept.in_range;
       })
 
   AreKept-erase : (key : KeyName) → AreKept limits (entries_without key (entries c))
   AreKept-erase key =
       let es = entries c in
       let p : Entry → Bool = λ e. not (eq_by_cmp key_cmp key e.0) in
+      let size : Entry → ℕ = λ e. length e.1.event.readings in
       record {
-        events = omega (arith, length_without key es, kept.events);
-        readings = omega (arith, readings_without key es, kept.readings);
+        events = omega (arith, length-filter p es, count_by-le-length p es, kept.events);
+        readings = omega (arith, sum_by-filter_both p (λ e. not (p e)) (λ e. refl) size es, kept.readings);
         transactions = omega (arith, transactions-filter p es, kept.transactions);
         in_range = AreEntries-filter p es kept.in_range;
       }

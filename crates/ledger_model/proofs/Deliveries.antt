@@ -1,7 +1,7 @@
 -- Two deliveries that are accepted are accepted the other way round, and leave the same.
-use Rattle.std.{proofs.Common.{◌≡◌, ℕ, ◌+◌, ◌≤◌, Bool, true, false, cond, not, ◌&&◌, ◌||◌, List, [], ◌∷◌, ◌++◌, Option, Some, None, length, sum_by, refl, ap, sym, subst, ◌∙◌, nat_le, nat_lt, is_eq, Less, Equal, Greater, bytes_eq, arith, IsPermutation, true≢false}, specs.Ordering.eq_by_cmp, specs.List.list_any, specs.Cmp.eq_by_cmp_equiv, specs.FinMap.FinMap, specs.FinMap.Entries.{find, put, by_order}, proofs.lemmas.Bool.{ltb-false, le-ltb}, proofs.lemmas.Cmp.nat_list_eq_equiv, proofs.lemmas.List.length-append, proofs.lemmas.List.Folds.list_any-append, proofs.lemmas.List.Sums.{sum_by-append, sum_by-cons}, proofs.lemmas.Slice.Eq.bytes_eq-Decides}
+use Rattle.std.{proofs.Common.{◌≡◌, ℕ, ◌+◌, ◌≤◌, Bool, true, false, cond, not, ◌&&◌, ◌||◌, List, ◌∷◌, ◌++◌, Option, Some, None, length, sum_by, refl, ap, sym, subst, ◌∙◌, nat_le, nat_lt, bytes_eq, arith, IsPermutation, true≢false}, specs.Ordering.eq_by_cmp, specs.List.list_any, specs.Cmp.eq_by_cmp_equiv, specs.FinMap.FinMap, proofs.lemmas.Bool.{ltb-false, le-ltb}, proofs.lemmas.Cmp.nat_list_eq_equiv, proofs.lemmas.List.length-append, proofs.lemmas.List.Folds.list_any-append, proofs.lemmas.List.Sums.{sum_by-append, sum_by-cons}, proofs.lemmas.Slice.Eq.bytes_eq-Decides}
 use Rattle.std.specs.FinMap as finite
-use Rattle.ledger_model.{specs.declared.command.Command.Command, specs.declared.command.Command.TheVariants.Deliver, specs.declared.answer.Answer.Answer, specs.declared.answer.Answer.TheVariants.{Accepted, Repeat, Refused}, specs.declared.answer.Refusal.TheVariants.{ConflictingEvent, TooManyTransactions, EventsFull, ReadingsFull, ChangesExhausted}, specs.Key.{KeyName, key_cmp}, specs.Event.same_event, specs.Limits.Bounds, specs.Content.{Content, Stored, Entry, entries, transactions_of, has_transaction}, specs.Step.{step, answer, answer_to_deliver, readings_stored, content_after}, specs.Laws.{IsAccepted, AreAccepted, left_by, Sent, deliveries}, proofs.Keys.{key_total, exact_keys}, proofs.LedgerLemmas.not_refused, proofs.Transactions.transactions_added, proofs.Exchanges.{IsKeptByExchanges, of_permutation}}
+use Rattle.ledger_model.{specs.declared.command.Command.Command, specs.declared.command.Command.TheVariants.Deliver, specs.declared.answer.Answer.Answer, specs.declared.answer.Answer.TheVariants.{Accepted, Repeat, Refused}, specs.declared.answer.Refusal.TheVariants.{ConflictingEvent, TooManyTransactions, EventsFull, ReadingsFull, ChangesExhausted}, specs.Key.{KeyName, key_cmp}, specs.Event.same_event, specs.Limits.Bounds, specs.Content.{Content, Stored, Entry, entries, transactions_of, has_transaction}, specs.Step.{step, answer, answer_to_deliver, readings_stored, content_after}, specs.Laws.{DeliversTheSame, IsAccepted, AreAccepted, left_by, Sent, deliveries}, proofs.Cuts.{at_key, behind, cut, in_front}, proofs.Keys.{key_total, exact_keys}, proofs.LedgerLemmas.not_refused, proofs.Transactions.transactions_added, proofs.Exchanges.{IsKeptByExchanges, of_permutation}}
 
 abbrev pub fresh : Sent → Stored
 fresh d = record { event = d.1; voided = false }
@@ -54,29 +54,6 @@ module _ (limits : Bounds) (c : Content) (d : Sent) where
   pub left_with : Room limits c d → (commands : List Command) → left_by limits c (Deliver d.0 d.1 ∷ commands) ≡ left_by limits (delivered c d) commands
   left_with r commands = ap (λ (p : Content × Answer). left_by limits p.0 commands) (told r)
 
--- an entry is between others, without which the list is es
-pub record IsPut (e : Entry) (es fs : List Entry) : Type 0 where
-  pub front : List Entry
-  pub back : List Entry
-  pub before : es ≡ front ++ back
-  pub after : fs ≡ front ++ e ∷ back
-
-put_behind : (e f : Entry) (es fs : List Entry) → IsPut e es fs → IsPut e (f ∷ es) (f ∷ fs)
-put_behind e f es fs p = record { front = f ∷ p.front; back = p.back; before = ap (λ gs. f ∷ gs) p.before; after = ap (λ gs. f ∷ gs) p.after }
-
-some_not_none : {A : Type 0} (x : A) → Some x ≡ None → ⊥
-some_not_none x e = cc
-
--- an entry of a new key is put between others
-pub put_between : (k : KeyName) (s : Stored) (es : List Entry) → find key_cmp k es ≡ None → IsPut (k, s) es (put key_cmp k s es)
-put_between k s [] h = record { front = []; back = []; before = refl; after = refl }
-put_between k s (e ∷ es) h =
-    elim (key_cmp k e.0) as (λ o. cond (is_eq o) (Some e.1) (find key_cmp k es) ≡ None → IsPut (k, s) (e ∷ es) (by_order o ((k, s) ∷ e ∷ es) ((e.0, s) ∷ es) (e ∷ put key_cmp k s es))) [
-      | Less ↦ λ h. record { front = []; back = e ∷ es; before = refl; after = refl }
-      | Equal ↦ λ h. absurd (some_not_none e.1 h)
-      | Greater ↦ λ h. put_behind (k, s) e es _ (put_between k s es h)
-    ] h
-
 -- what a delivery of a new key adds
 pub record Grown (c : Content) (d : Sent) : Type 0 where
   pub events : length (entries (delivered c d)) ≡ length (entries c) + 1
@@ -101,16 +78,18 @@ any_between p front back e =
 
 pub grown : (c : Content) (d : Sent) → finite.get c.events d.0 ≡ None → Grown c d
 grown c d new =
-    let p = put_between d.0 (fresh d) (entries c) (sym (finite.get-entries c.events d.0) ∙ new) in
+    let front = in_front d.0 (entries c) in
+    let back = behind d.0 (entries c) in
+    let parts = cut d.0 (entries c) (finite.entries_sorted c.events) in
     let e : Entry = (d.0, fresh d) in
-    let is : entries (delivered c d) ≡ p.front ++ e ∷ p.back = finite.entries-insert key_total c.events d.0 (fresh d) ∙ p.after in
-    let was : p.front ++ p.back ≡ entries c = sym p.before in
+    let is : entries (delivered c d) ≡ front ++ e ∷ back = finite.entries-insert key_total c.events d.0 (fresh d) ∙ parts.with_put (fresh d) in
+    let was : front ++ back ≡ entries c = sym (parts.all ∙ ap (λ o. front ++ (at_key d.0 o ++ back)) (sym (finite.get-entries c.events d.0) ∙ new)) in
     let readings_of_one = λ (e : Entry). length e.1.event.readings in
     record {
-      events = ap length is ∙ length_between p.front p.back e ∙ ap (λ es. length es + 1) was;
-      readings = ap readings_stored is ∙ sum_between readings_of_one p.front p.back e ∙ ap (λ es. readings_stored es + length d.1.readings) was;
-      has = λ tx. ap (has_transaction tx) is ∙ any_between (λ (e : Entry). bytes_eq tx e.0.tx) p.front p.back e ∙ ap (λ es. bytes_eq tx d.0.tx || has_transaction tx es) was;
-      transactions = ap (λ es. length (transactions_of es)) is ∙ transactions_added p.front p.back e
+      events = ap length is ∙ length_between front back e ∙ ap (λ es. length es + 1) was;
+      readings = ap readings_stored is ∙ sum_between readings_of_one front back e ∙ ap (λ es. readings_stored es + length d.1.readings) was;
+      has = λ tx. ap (has_transaction tx) is ∙ any_between (λ (e : Entry). bytes_eq tx e.0.tx) front back e ∙ ap (λ es. bytes_eq tx d.0.tx || has_transaction tx es) was;
+      transactions = ap (λ es. length (transactions_of es)) is ∙ transactions_added front back e
           ∙ ap (λ es. cond (has_transaction d.0.tx es) (length (transactions_of es)) (length (transactions_of es) + 1)) was;
     }
 
@@ -120,7 +99,7 @@ record Exchanged (limits : Bounds) (c : Content) (x y : Sent) : Type 0 where
   same : delivered (delivered c x) y ≡ delivered (delivered c y) x
 
 cond_none : (b : Bool) (s : Stored) (o : Option Stored) → cond b (Some s) o ≡ None → (b ≡ false) × (o ≡ None)
-cond_none true s o h = absurd (some_not_none s h)
+cond_none true s o h = cc
 cond_none false s o h = (refl, h)
 
 -- the rule of transactions, the other way round: y has the transaction of x, or another
@@ -211,9 +190,6 @@ module _ (limits : Bounds) where
   each_order : (one other : List Sent) → IsPermutation one other → Reordered one other
   each_order one other p = of_permutation Reordered reordered one other p
 
-pub orders_accepted : (limits : Bounds) (c : Content) (one other : List Sent) → IsPermutation one other → AreAccepted limits c (deliveries one) → AreAccepted limits c (deliveries other)
-orders_accepted limits c one other p h = (each_order limits one other p c h).0
-
-pub orders_content : (limits : Bounds) (c : Content) (one other : List Sent) → IsPermutation one other
-    → AreAccepted limits c (deliveries one) → left_by limits c (deliveries other) ≡ left_by limits c (deliveries one)
-orders_content limits c one other p h = (each_order limits one other p c h).1
+-- Deliveries in another order are accepted too, and leave the same.
+pub each_order_delivers : (limits : Bounds) (c : Content) (one other : List Sent) → IsPermutation one other → AreAccepted limits c (deliveries one) → DeliversTheSame limits c one other
+each_order_delivers limits c one other p h = let both = each_order limits one other p c h in record { accepted = both.0; content = both.1 }

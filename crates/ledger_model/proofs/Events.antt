@@ -4,26 +4,19 @@ use Rattle.ledger_model.{specs.declared.kind.Kind.Kind, specs.declared.kind.Kind
 
 same_kind-Decides : (a b : Kind) → Decides (same_kind a b) (a ≡ b)
 same_kind-Decides Started Started = (λ _. refl, λ _. refl)
-same_kind-Decides Started Updated = (λ h. absurd (false≢true h), λ e. cc)
-same_kind-Decides Started Ended = (λ h. absurd (false≢true h), λ e. cc)
-same_kind-Decides Updated Started = (λ h. absurd (false≢true h), λ e. cc)
 same_kind-Decides Updated Updated = (λ _. refl, λ _. refl)
-same_kind-Decides Updated Ended = (λ h. absurd (false≢true h), λ e. cc)
-same_kind-Decides Ended Started = (λ h. absurd (false≢true h), λ e. cc)
-same_kind-Decides Ended Updated = (λ h. absurd (false≢true h), λ e. cc)
 same_kind-Decides Ended Ended = (λ _. refl, λ _. refl)
+same_kind-Decides _ _ = (λ h. absurd (false≢true h), λ e. cc)
 
 same_evse-Decides : (a b : Option ℕ) → Decides (same_evse a b) (a ≡ b)
 same_evse-Decides None None = (λ _. refl, λ _. refl)
-same_evse-Decides None (Some n) = (λ h. absurd (false≢true h), λ e. cc)
-same_evse-Decides (Some n) None = (λ h. absurd (false≢true h), λ e. cc)
 same_evse-Decides (Some m) (Some n) = Decides-like _ (λ e. ap Some e) (λ e. cc) (Decides-eqb m n)
+same_evse-Decides _ _ = (λ h. absurd (false≢true h), λ e. cc)
 
 same_direction-Decides : (a b : Direction) → Decides (same_direction a b) (a ≡ b)
 same_direction-Decides Import Import = (λ _. refl, λ _. refl)
-same_direction-Decides Import Export = (λ h. absurd (false≢true h), λ e. cc)
-same_direction-Decides Export Import = (λ h. absurd (false≢true h), λ e. cc)
 same_direction-Decides Export Export = (λ _. refl, λ _. refl)
+same_direction-Decides _ _ = (λ h. absurd (false≢true h), λ e. cc)
 
 pub same_reading-Decides : (a b : MeterReading) → Decides (same_reading a b) (a ≡ b)
 same_reading-Decides a b =
@@ -33,10 +26,9 @@ same_reading-Decides a b =
 
 same_readings-Decides : (rs ss : List MeterReading) → Decides (same_readings rs ss) (rs ≡ ss)
 same_readings-Decides [] [] = (λ _. refl, λ _. refl)
-same_readings-Decides [] (b ∷ ss) = (λ h. absurd (false≢true h), λ e. cc)
-same_readings-Decides (a ∷ rs) [] = (λ h. absurd (false≢true h), λ e. cc)
 same_readings-Decides (a ∷ rs) (b ∷ ss) =
     Decides-like _ (λ parts i. parts.0 i ∷ parts.1 i) (λ e. (cc, cc)) (Decides-and _ _ (same_reading-Decides a b) (same_readings-Decides rs ss))
+same_readings-Decides _ _ = (λ h. absurd (false≢true h), λ e. cc)
 
 -- the test of events decides whether they are equal
 pub same_event-Decides : (a b : EventContent) → Decides (same_event a b) (a ≡ b)

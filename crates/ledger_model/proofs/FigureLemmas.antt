@@ -1,13 +1,12 @@
 -- The figures of a site are the sums of its stations' figures.
-use Rattle.std.{proofs.Common.{◌≡◌, ℕ, List, [], ◌∷◌, ◌+◌, refl, ap, sym, ◌∙◌, map}, specs.Prelude.sum_by, proofs.lemmas.List.Sums.sum_by-cons}
+use Rattle.std.{proofs.Common.{◌≡◌, ℕ, List, ◌+◌, refl, map}, specs.Prelude.sum_by, proofs.lemmas.List.Recursion.is_sum_by}
 use Rattle.ledger_model.{specs.Periods.Periods, specs.declared.figures.Figures.Figures, specs.Figures.no_figures, specs.Board.{Board, plus_figures, sum_of_figures, site_board}, specs.BoardLaws.AreSums}
 
 -- a figure of the sum is the sum of that figure
 pub figure_of_sum : (figure : Figures → ℕ) → figure no_figures ≡ 0
     → ((a b : Figures) → figure (plus_figures a b) ≡ figure a + figure b) → (fs : List Figures)
     → figure (sum_of_figures fs) ≡ sum_by figure fs
-figure_of_sum figure none both [] = none
-figure_of_sum figure none both (f ∷ fs) = both f (sum_of_figures fs) ∙ ap (λ n. figure f + n) (figure_of_sum figure none both fs) ∙ sym (sum_by-cons figure f fs)
+figure_of_sum figure none both fs = is_sum_by (λ fs. figure (sum_of_figures fs)) figure none (λ f fs. both f (sum_of_figures fs)) fs
 
 pub figures-AreSums : (fs : List Figures) → AreSums (sum_of_figures fs) fs
 figures-AreSums fs = record {

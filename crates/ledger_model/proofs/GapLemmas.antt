@@ -1,13 +1,11 @@
 -- The gaps of rising numbers are the maximal ranges of what is missing.
-use Rattle.std.{proofs.Common.{◌≡◌, ℕ, ◌<◌, ◌≤◌, ◌+◌, ◌-◌, ◌⊎◌, List, [], ◌∷◌, length, refl, ap, sym, ◌∙◌, ⊎_elim, inl, inr, subst, arith}, specs.Prelude.sum_by, proofs.lemmas.Bool.{cases_order, cases_lt, lt-ltb, le-ltb}, proofs.lemmas.List.Sums.sum_by-cons}
+use Rattle.std.{proofs.Common.{◌≡◌, ℕ, ◌<◌, ◌≤◌, ◌+◌, ◌-◌, List, [], ◌∷◌, length, refl, sym, ⊎_elim, inl, inr, arith}, specs.Prelude.{sum_by, nat_lt, Some, None}, specs.List.cons_option, proofs.lemmas.Bool.{cases_lt, cond_both, ltb-true, ltb-false}, proofs.lemmas.List.Sums.sum_by-cons}
 use Rattle.ledger_model.{specs.Gaps.{Gap, gaps, gap_size, missing}, specs.Evse.first_or_zero, specs.Board.last_or_zero, specs.BoardLaws.{AreRising, IsIn, IsMissing, IsInSome, AreApart, AreGaps}}
 
--- numbers that follow one another leave no gap
-gaps-near : (n m : ℕ) (ns : List ℕ) → m ≤ n + 1 → gaps (n ∷ m ∷ ns) ≡ gaps (m ∷ ns)
-gaps-near n m ns h = rw (le-ltb (n + 1) m h)
-
-gaps-far : (n m : ℕ) (ns : List ℕ) → n + 1 < m → gaps (n ∷ m ∷ ns) ≡ (n + 1, m - 1) ∷ gaps (m ∷ ns)
-gaps-far n m ns h = rw (lt-ltb (n + 1) m h)
+-- what is so of the gaps with one number more in front, which may leave a gap
+gaps_cases : (P : List Gap → Type 0) (n m : ℕ) (ns : List ℕ) → (n + 1 < m → P ((n + 1, m - 1) ∷ gaps (m ∷ ns))) → (m ≤ n + 1 → P (gaps (m ∷ ns))) → P (gaps (n ∷ m ∷ ns))
+gaps_cases P n m ns far near =
+    cond_both (nat_lt (n + 1) m) (Some (n + 1, m - 1)) None (λ o. P (cons_option o (gaps (m ∷ ns)))) (λ lt. far (ltb-true (n + 1) m lt)) (λ ge. near (ltb-false (n + 1) m ge))
 
 -- no rising number is below the first
 first_is_lowest : (n : ℕ) (ns : List ℕ) → AreRising (n ∷ ns) → (k : ℕ) → IsIn k (n ∷ ns) → n ≤ k
@@ -52,45 +50,27 @@ missing_between n m ns up k above below = record {
   higher = (m, (inr (inl refl), below));
 }
 
-covers-more : (n m : ℕ) (ns : List ℕ) → AreRising (n ∷ m ∷ ns) → (k : ℕ) → IsMissing (n ∷ m ∷ ns) k → (IsMissing (m ∷ ns) k → IsInSome k (gaps (m ∷ ns))) → IsInSome k (gaps (n ∷ m ∷ ns))
-covers-more n m ns up k h rest =
-    let above : n < k = missing_above n (m ∷ ns) up k h in
-    ⊎_elim
-    (λ (e : k ≡ m). absurd (h.absent (inr (inl e))))
-    (λ (o : (k < m) ⊎ (m < k)). ⊎_elim
-    (λ (below : k < m).
-    let far : n + 1 < m = omega arith in
-    subst (IsInSome k) (sym (gaps-far n m ns far)) (inl (omega arith, omega arith)))
-    (λ (beyond : m < k).
-    let there : IsInSome k (gaps (m ∷ ns)) = rest (missing_rest n m ns up k beyond h) in
-    ⊎_elim
-    (λ (far : n + 1 < m). subst (IsInSome k) (sym (gaps-far n m ns far)) (inr there))
-    (λ (near : m ≤ n + 1). subst (IsInSome k) (sym (gaps-near n m ns near)) there)
-    (cases_lt (n + 1) m))
-    o)
-    (cases_order k m)
-
 covers-all : (ns : List ℕ) → AreRising ns → (k : ℕ) → IsMissing ns k → IsInSome k (gaps ns)
 covers-all [] up k h = h.lower.1.0
 covers-all (n ∷ []) up k h =
     let above : n < k = missing_above n [] up k h in
     ⊎_elim (λ (e : h.higher.0 ≡ n). let a : k < h.higher.0 = h.higher.1.1 in absurd (omega arith)) (λ (none : ⊥). none) h.higher.1.0
-covers-all (n ∷ m ∷ ns) up k h = covers-more n m ns up k h (λ r. covers-all (m ∷ ns) up.1 k r)
-
-within-more : (n m : ℕ) (ns : List ℕ) → AreRising (n ∷ m ∷ ns) → (k : ℕ) → (IsInSome k (gaps (m ∷ ns)) → IsMissing (m ∷ ns) k) → IsInSome k (gaps (n ∷ m ∷ ns)) → IsMissing (n ∷ m ∷ ns) k
-within-more n m ns up k rest h =
-    ⊎_elim
-    (λ (far : n + 1 < m). ⊎_elim
-    (λ (here : (n + 1 ≤ k) × (k ≤ m - 1)). let a : n + 1 ≤ k = here.0 in let b : k ≤ m - 1 = here.1 in missing_between n m ns up k (omega arith) (omega arith))
-    (λ (there : IsInSome k (gaps (m ∷ ns))). missing_more n m ns up k (rest there))
-    (subst (IsInSome k) (gaps-far n m ns far) h))
-    (λ (near : m ≤ n + 1). missing_more n m ns up k (rest (subst (IsInSome k) (gaps-near n m ns near) h)))
-    (cases_lt (n + 1) m)
+covers-all (n ∷ m ∷ ns) up k h =
+    let above : n < k = missing_above n (m ∷ ns) up k h in
+    let apart : k ≡ m → ⊥ = λ e. h.absent (inr (inl e)) in
+    gaps_cases (IsInSome k) n m ns
+    (λ far. elim (cases_lt m k) [ inl beyond ↦ inr (covers-all (m ∷ ns) up.1 k (missing_rest n m ns up k beyond h)) | inr below ↦ inl (omega arith, omega arith) ])
+    (λ near. covers-all (m ∷ ns) up.1 k (missing_rest n m ns up k (omega arith) h))
 
 within-all : (ns : List ℕ) → AreRising ns → (k : ℕ) → IsInSome k (gaps ns) → IsMissing ns k
 within-all [] up k h = absurd h
 within-all (n ∷ []) up k h = absurd h
-within-all (n ∷ m ∷ ns) up k h = within-more n m ns up k (λ r. within-all (m ∷ ns) up.1 k r) h
+within-all (n ∷ m ∷ ns) up k h = gaps_cases (λ gs. IsInSome k gs → IsMissing (n ∷ m ∷ ns) k) n m ns
+    (λ far in_some. elim in_some [
+      | inl here ↦ let a : n + 1 ≤ k = here.0 in let b : k ≤ m - 1 = here.1 in missing_between n m ns up k (omega arith) (omega arith)
+      | inr there ↦ missing_more n m ns up k (within-all (m ∷ ns) up.1 k there)
+    ])
+    (λ near there. missing_more n m ns up k (within-all (m ∷ ns) up.1 k there)) h
 
 -- gaps that are apart and begin above a number, with a gap below it in front
 AreApart-more : (a b : ℕ) (gs : List Gap) → a ≤ b → ((k : ℕ) → IsInSome k gs → b + 1 < k) → AreApart gs → AreApart ((a, b) ∷ gs)
@@ -101,15 +81,11 @@ AreApart-more a b (g ∷ g' ∷ gs) up above h = (up, (above g.0 (inl (omega ari
 apart-all : (ns : List ℕ) → AreRising ns → AreApart (gaps ns)
 apart-all [] up = tt
 apart-all (n ∷ []) up = tt
-apart-all (n ∷ m ∷ ns) up = apart-more n m ns up (apart-all (m ∷ ns) up.1)
-  where
-    apart-more : (n m : ℕ) (ns : List ℕ) → AreRising (n ∷ m ∷ ns) → AreApart (gaps (m ∷ ns)) → AreApart (gaps (n ∷ m ∷ ns))
-    apart-more n m ns up h = ⊎_elim
-        (λ (far : n + 1 < m). subst AreApart (sym (gaps-far n m ns far))
-        (AreApart-more (n + 1) (m - 1) (gaps (m ∷ ns)) (omega arith)
-        (λ k there. let above : m < k = missing_above m ns up.1 k (within-all (m ∷ ns) up.1 k there) in omega arith) h))
-        (λ (near : m ≤ n + 1). subst AreApart (sym (gaps-near n m ns near)) h)
-        (cases_lt (n + 1) m)
+apart-all (n ∷ m ∷ ns) up =
+    let rest = apart-all (m ∷ ns) up.1 in
+    gaps_cases AreApart n m ns
+    (λ far. AreApart-more (n + 1) (m - 1) (gaps (m ∷ ns)) (omega arith) (λ k there. let above : m < k = missing_above m ns up.1 k (within-all (m ∷ ns) up.1 k there) in omega arith) rest)
+    (λ near. rest)
 
 pub gaps-AreGaps : (ns : List ℕ) → AreRising ns → AreGaps ns (gaps ns)
 gaps-AreGaps ns up = record { covers = covers-all ns up; within = within-all ns up; apart = apart-all ns up }
@@ -181,14 +157,9 @@ fills n [] up = omega arith
 fills n (m ∷ ns) up =
     let rest : m + length (m ∷ ns) + missing (m ∷ ns) ≡ last_or_zero (m ∷ ns) + 1 = fills m ns up.1 in
     let rise : n < m = up.0 in
-    ⊎_elim
-    (λ (far : n + 1 < m).
-    let e : missing (n ∷ m ∷ ns) ≡ ((m - 1) + 1 - (n + 1)) + missing (m ∷ ns) = ap (sum_by gap_size) (gaps-far n m ns far) ∙ sum_by-cons gap_size (n + 1, m - 1) (gaps (m ∷ ns)) in
-    omega (arith, e, rest))
-    (λ (near : m ≤ n + 1).
-    let e : missing (n ∷ m ∷ ns) ≡ missing (m ∷ ns) = ap (sum_by gap_size) (gaps-near n m ns near) in
-    omega (arith, e, rest))
-    (cases_lt (n + 1) m)
+    gaps_cases (λ gs. n + length (n ∷ m ∷ ns) + sum_by gap_size gs ≡ last_or_zero (m ∷ ns) + 1) n m ns
+    (λ far. omega (arith, rest, sum_by-cons gap_size (n + 1, m - 1) (gaps (m ∷ ns))))
+    (λ near. omega (arith, rest))
 
 pub missing-fills : (ns : List ℕ) → AreRising ns → 0 < length ns → first_or_zero ns + length ns + missing ns ≡ last_or_zero ns + 1
 missing-fills [] up some = absurd (omega arith)

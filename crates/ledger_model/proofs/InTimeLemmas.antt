@@ -1,6 +1,6 @@
 -- Lists in the order of moments.
-use Rattle.std.{proofs.Common.{◌≡◌, ℕ, ◌+◌, ◌<◌, ◌≤◌, ◌⊎◌, Bool, true, false, cond, List, [], ◌∷◌, ◌++◌, refl, sym, ap, subst, ◌∙◌, ⊎_elim, map, nat_lt, eqb, arith}, specs.List.{filter, sum_by}, proofs.lemmas.Bool.{lt-ltb, le-ltb, cases_lt, cases_eq, cases_order, eq-eqb, ne_eqb}, proofs.lemmas.List.Sums.sum_by-cons}
-use Rattle.ledger_model.specs.InTime.{put_in_time, in_time, AreInTime}
+use Rattle.std.{proofs.Common.{length, ◌≡◌, ℕ, ◌+◌, ◌<◌, ◌≤◌, ◌⊎◌, Bool, true, false, cond, List, [], ◌∷◌, ◌++◌, refl, sym, ap, subst, ◌∙◌, ⊎_elim, map, nat_lt, eqb, arith}, specs.List.{filter, sum_by}, proofs.lemmas.Bool.{cond_both, eqb-true, ltb-true, ltb-false, lt-ltb, le-ltb, cases_lt, cases_eq, cases_order, eq-eqb, ne_eqb}, proofs.lemmas.List.Sums.sum_by-cons}
+use Rattle.ledger_model.{specs.declared.order.Order.Order, specs.declared.order.Order.TheVariants.{Sequence, Moment}, specs.InTime.{put_in_time, in_order, in_time, AreInTime}, proofs.SumLemmas.sum_by-const}
 
 module _ {X : Type 0} (when : X → ℕ) where
   -- An element goes behind an earlier one, and in front of any other.
@@ -9,6 +9,10 @@ module _ {X : Type 0} (when : X → ℕ) where
 
   pub put-front : (x y : X) (ys : List X) → when x ≤ when y → put_in_time when x (y ∷ ys) ≡ x ∷ y ∷ ys
   put-front x y ys le = ap (λ b. cond b (y ∷ put_in_time when x ys) (x ∷ y ∷ ys)) (le-ltb (when y) (when x) le)
+
+  -- What is so of each list that putting an element in may give.
+  put_cases : (P : List X → Type 0) (x y : X) (ys : List X) → (when y < when x → P (y ∷ put_in_time when x ys)) → (when x ≤ when y → P (x ∷ y ∷ ys)) → P (put_in_time when x (y ∷ ys))
+  put_cases P x y ys behind front = cond_both (nat_lt (when y) (when x)) _ _ P (λ lt. behind (ltb-true (when y) (when x) lt)) (λ ge. front (ltb-false (when y) (when x) ge))
 
   -- Each element is at this moment or later.
   abbrev pub AreFrom : ℕ → List X → Type 0
@@ -39,18 +43,13 @@ module _ {X : Type 0} (when : X → ℕ) where
 
   put_from : (n : ℕ) (x : X) (ys : List X) → n ≤ when x → AreFrom n ys → AreFrom n (put_in_time when x ys)
   put_from n x [] le from = (le, tt)
-  put_from n x (y ∷ ys) le from = ⊎_elim
-      (λ (lt : when y < when x). subst (AreFrom n) (sym (put-behind x y ys lt)) (from.0, put_from n x ys le from.1))
-      (λ (ge : when x ≤ when y). subst (AreFrom n) (sym (put-front x y ys ge)) (le, from))
-      (cases_lt (when y) (when x))
+  put_from n x (y ∷ ys) le from = put_cases (AreFrom n) x y ys (λ lt. (from.0, put_from n x ys le from.1)) (λ ge. (le, from))
 
   pub put_rises : (x : X) (ys : List X) → AreInTime when ys → AreInTime when (put_in_time when x ys)
   put_rises x [] up = tt
-  put_rises x (y ∷ ys) up = ⊎_elim
-      (λ (lt : when y < when x). subst (AreInTime when) (sym (put-behind x y ys lt))
-      (cons_rises y (put_in_time when x ys) (put_from (when y) x ys (omega (arith, lt)) (rest_from y ys up)) (put_rises x ys (tail_rises y ys up))))
-      (λ (ge : when x ≤ when y). subst (AreInTime when) (sym (put-front x y ys ge)) (ge, up))
-      (cases_lt (when y) (when x))
+  put_rises x (y ∷ ys) up = put_cases (AreInTime when) x y ys
+      (λ lt. cons_rises y (put_in_time when x ys) (put_from (when y) x ys (omega (arith, lt)) (rest_from y ys up)) (put_rises x ys (tail_rises y ys up)))
+      (λ ge. (ge, up))
 
   -- By moment, no element is earlier than the one in front of it.
   pub in_time-rises : (xs : List X) → AreInTime when (in_time when xs)
@@ -69,20 +68,14 @@ module _ {X : Type 0} (when : X → ℕ) where
 
   pub put-sum : (f : X → ℕ) (x : X) (ys : List X) → sum_by f (put_in_time when x ys) ≡ f x + sum_by f ys
   put-sum f x [] = sum_by-cons f x []
-  put-sum f x (y ∷ ys) = ⊎_elim
-      (λ (lt : when y < when x).
-      let rest : sum_by f (put_in_time when x ys) ≡ f x + sum_by f ys = put-sum f x ys in
-      let whole = ap (sum_by f) (put-behind x y ys lt) ∙ sum_by-cons f y (put_in_time when x ys) in
-      omega (arith, rest, whole, sum_by-cons f y ys))
-      (λ (ge : when x ≤ when y). ap (sum_by f) (put-front x y ys ge) ∙ sum_by-cons f x (y ∷ ys))
-      (cases_lt (when y) (when x))
+  put-sum f x (y ∷ ys) = put_cases (λ zs. sum_by f zs ≡ f x + sum_by f (y ∷ ys)) x y ys
+      (λ lt. let rest = put-sum f x ys in omega (arith, rest, sum_by-cons f y (put_in_time when x ys), sum_by-cons f y ys))
+      (λ ge. sum_by-cons f x (y ∷ ys))
 
   -- The elements stay the same.
   pub in_time-sum : (f : X → ℕ) (xs : List X) → sum_by f (in_time when xs) ≡ sum_by f xs
   in_time-sum f [] = refl
-  in_time-sum f (x ∷ xs) =
-      let rest : sum_by f (in_time when xs) ≡ sum_by f xs = in_time-sum f xs in
-      put-sum f x (in_time when xs) ∙ ap (λ n. f x + n) rest ∙ sym (sum_by-cons f x xs)
+  in_time-sum f (x ∷ xs) = omega (arith, in_time-sum f xs, put-sum f x (in_time when xs), sum_by-cons f x xs)
 
   -- Those that pass a test.
   from_passed : (p : X → Bool) (n : ℕ) (ys : List X) → AreFrom n ys → AreFrom n (filter p ys)
@@ -122,13 +115,9 @@ module _ {X : Type 0} (when : X → ℕ) where
 
   all_one : (n : ℕ) (xs : List X) → AreFrom n (of_moment n xs) × AreUpTo n (of_moment n xs)
   all_one n [] = (tt, tt)
-  all_one n (x ∷ xs) = ⊎_elim
-      (λ (e : when x ≡ n). subst (λ b. AreFrom n (cond b (x ∷ of_moment n xs) (of_moment n xs)) × AreUpTo n (cond b (x ∷ of_moment n xs) (of_moment n xs))) (sym (eq-eqb (when x) n e))
-      ((omega (arith, e), (all_one n xs).0), (omega (arith, e), (all_one n xs).1)))
-      (λ (apart : when x ≡ n → ⊥). subst
-      (λ b. AreFrom n (cond b (x ∷ of_moment n xs) (of_moment n xs)) × AreUpTo n (cond b (x ∷ of_moment n xs) (of_moment n xs)))
-      (sym (ne_eqb (when x) n apart)) (all_one n xs))
-      (cases_eq (when x) n)
+  all_one n (x ∷ xs) =
+      let rest = all_one n xs in
+      cond_both (eqb (when x) n) _ _ (λ zs. AreFrom n zs × AreUpTo n zs) (λ e. let same = eqb-true (when x) n e in ((omega (arith, same), rest.0), (omega (arith, same), rest.1))) (λ apart. rest)
 
   one_moment_rises : (n : ℕ) (xs : List X) → AreFrom n xs → AreUpTo n xs → AreInTime when xs
   one_moment_rises n [] from upto = tt
@@ -141,7 +130,7 @@ module _ {X : Type 0} (when : X → ℕ) where
       ∙ in_time-same (of_moment n xs) (one_moment_rises n (of_moment n xs) (all_one n xs).0 (all_one n xs).1)
 
   -- Nothing of an earlier moment is among what is later.
-  none_earlier : (n m : ℕ) (xs : List X) → n < m → AreFrom m xs → of_moment n xs ≡ []
+  pub none_earlier : (n m : ℕ) (xs : List X) → n < m → AreFrom m xs → of_moment n xs ≡ []
   none_earlier n m [] lt from = refl
   none_earlier n m (x ∷ xs) lt from =
       ap (λ b. cond b (x ∷ of_moment n xs) (of_moment n xs)) (ne_eqb (when x) n (λ e. absurd (let a : m ≤ when x = from.0 in omega (arith, a, lt, e)))) ∙ none_earlier n m xs lt from.1
@@ -204,27 +193,22 @@ module _ {X : Type 0} (when : X → ℕ) where
 
   put_upto : (n : ℕ) (y : X) (ys : List X) → when y ≤ n → AreUpTo n ys → AreUpTo n (put_in_time when y ys)
   put_upto n y [] le upto = (le, tt)
-  put_upto n y (z ∷ ys) le upto = ⊎_elim
-      (λ (lt : when z < when y). subst (AreUpTo n) (sym (put-behind y z ys lt)) (upto.0, put_upto n y ys le upto.1))
-      (λ (ge : when y ≤ when z). subst (AreUpTo n) (sym (put-front y z ys ge)) (le, upto))
-      (cases_lt (when z) (when y))
+  put_upto n y (z ∷ ys) le upto = put_cases (AreUpTo n) y z ys (λ lt. (upto.0, put_upto n y ys le upto.1)) (λ ge. (le, upto))
 
   put_itself : (x : X) (ys : List X) → AreInTime when ys → IsPutIn x ys (put_in_time when x ys)
   put_itself x [] up = record { front = []; back = []; less_is = refl; more_is = refl; early = tt; late = tt }
-  put_itself x (y ∷ ys) up = ⊎_elim
-      (λ (lt : when y < when x).
+  put_itself x (y ∷ ys) up = put_cases (IsPutIn x (y ∷ ys)) x y ys
+      (λ lt.
       let rest : IsPutIn x ys (put_in_time when x ys) = put_itself x ys (tail_rises y ys up) in
       record {
         front = y ∷ rest.front;
         back = rest.back;
         less_is = ap (λ zs. y ∷ zs) rest.less_is;
-        more_is = put-behind x y ys lt ∙ ap (λ zs. y ∷ zs) rest.more_is;
+        more_is = ap (λ zs. y ∷ zs) rest.more_is;
         early = (omega (arith, lt), rest.early);
         late = rest.late;
       })
-      (λ (ge : when x ≤ when y).
-      record { front = []; back = y ∷ ys; less_is = refl; more_is = put-front x y ys ge; early = tt; late = (ge, later_from (when x) (when y) ys ge (rest_from y ys up)) })
-      (cases_lt (when y) (when x))
+      (λ ge. record { front = []; back = y ∷ ys; less_is = refl; more_is = refl; early = tt; late = (ge, later_from (when x) (when y) ys ge (rest_from y ys up)) })
 
   pub one_put_in : (x : X) (xs ys : List X) → IsPutIn x (in_time when (xs ++ ys)) (in_time when (xs ++ x ∷ ys))
   one_put_in x [] ys = put_itself x (in_time when ys) (in_time-rises ys)
@@ -265,3 +249,24 @@ module _ {X Y : Type 0} (when : Y → ℕ) (h : X → Y) where
   pub in_time-map : (xs : List X) → in_time when (map h xs) ≡ map h (in_time (λ x. when (h x)) xs)
   in_time-map [] = refl
   in_time-map (x ∷ xs) = ap (put_in_time when (h x)) (in_time-map xs) ∙ put-map x (in_time (λ x. when (h x)) xs)
+
+-- In either order.
+module _ {X : Type 0} (when : X → ℕ) where
+  pub order-nil : (order : Order) → in_order order when [] ≡ []
+  order-nil Sequence = refl
+  order-nil Moment = refl
+
+  pub order-passed : (order : Order) (p : X → Bool) (xs : List X) → in_order order when (filter p xs) ≡ filter p (in_order order when xs)
+  order-passed Sequence p xs = refl
+  order-passed Moment p xs = in_time-passed when p xs
+
+  pub order-sum : (order : Order) (f : X → ℕ) (xs : List X) → sum_by f (in_order order when xs) ≡ sum_by f xs
+  order-sum Sequence f xs = refl
+  order-sum Moment f xs = in_time-sum when f xs
+
+  pub order-length : (order : Order) (xs : List X) → length (in_order order when xs) ≡ length xs
+  order-length order xs = omega (arith, sum_by-const 1 (in_order order when xs), order-sum order (λ x. 1) xs, sum_by-const 1 xs)
+
+pub order-map : {X Y : Type 0} (order : Order) (when : Y → ℕ) (h : X → Y) (xs : List X) → in_order order when (map h xs) ≡ map h (in_order order (λ x. when (h x)) xs)
+order-map Sequence when h xs = refl
+order-map Moment when h xs = in_time-map when h xs

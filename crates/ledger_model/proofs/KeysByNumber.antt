@@ -1,18 +1,6 @@
 -- Where a key is among the events of its own transaction: by its number.
-use Rattle.std.{proofs.Common.{◌≡◌, ℕ, ◌<◌, Bool, true, false, cond, ◌&&◌, nat_lt, ◌⊎◌, List, [], ◌∷◌, refl, sym, ap, ◌∙◌, bytes_eq, arith, ⊎_elim}, specs.List.filter, specs.Ordering.{is_lt, nat_cmp, ordering_then}, specs.Cmp.{nat_cmp_is, tied_itself}, specs.Cmp.Lexicographic.slice_cmp, specs.declared.cmp.Ordering.TheVariants.{Less, Equal, Greater}, proofs.Math.Path.fun_ext, proofs.lemmas.Bool.{lt-ltb, le-ltb, cases_order}, proofs.lemmas.Cmp.nat_list_cmp_total}
-use Rattle.ledger_model.{specs.Key.{KeyName, key_cmp}, specs.Content.{Entry, live, live_of}, specs.Deltas.{before_key, behind_key, own_events}, proofs.SumsByTransaction.one_text}
-
--- Two tests, one after the other, are one test.
-twice : {X : Type 0} (p q : X → Bool) (xs : List X) → filter p (filter q xs) ≡ filter (λ x. q x && p x) xs
-twice p q [] = refl
-twice p q (x ∷ xs) = elim (q x) as (λ b. filter p (cond b (x ∷ filter q xs) (filter q xs)) ≡ cond (b && p x) (x ∷ filter (λ y. q y && p y) xs) (filter (λ y. q y && p y) xs)) [
-  | true ↦ ap (λ l. cond (p x) (x ∷ l) l) (twice p q xs)
-  | false ↦ twice p q xs
-]
-
-never : (b : Bool) → (b && false) ≡ false
-never true = refl
-never false = refl
+use Rattle.std.{proofs.Common.{◌≡◌, ℕ, ◌<◌, Bool, true, false, ◌&&◌, nat_lt, ◌⊎◌, List, refl, sym, ap, ◌∙◌, bytes_eq, arith, ⊎_elim}, specs.List.filter, specs.Ordering.{is_lt, nat_cmp, ordering_then}, specs.Cmp.{nat_cmp_is, tied_itself}, specs.Cmp.Lexicographic.slice_cmp, specs.declared.cmp.Ordering.TheVariants.{Less, Equal, Greater}, proofs.Math.Path.fun_ext, proofs.lemmas.Bool.{and_right, lt-ltb, le-ltb, cases_order}, proofs.lemmas.Cmp.nat_list_cmp_total}
+use Rattle.ledger_model.{specs.Key.{KeyName, key_cmp}, specs.Content.{Entry, live, live_of}, specs.Deltas.{before_key, behind_key, own_events}, proofs.SumsByTransaction.{filter_twice, one_text}}
 
 always : (b : Bool) → (b && true) ≡ b
 always true = refl
@@ -38,7 +26,7 @@ own_in_front : (key : KeyName) (e : Entry) → (is_lt (key_cmp e.0 key) && bytes
 own_in_front key e =
     (elim (bytes_eq key.tx e.0.tx) as (λ b. bytes_eq key.tx e.0.tx ≡ b → (is_lt (key_cmp e.0 key) && b) ≡ (b && nat_lt e.0.seq key.seq)) [
       | true ↦ λ is. always (is_lt (key_cmp e.0 key)) ∙ by_number e.0 key (sym (one_text key.tx e.0.tx is))
-      | false ↦ λ is. never (is_lt (key_cmp e.0 key))
+      | false ↦ λ is. and_right (is_lt (key_cmp e.0 key)) false refl
     ]) refl
 
 -- Those behind it have greater ones.
@@ -46,19 +34,19 @@ own_behind : (key : KeyName) (e : Entry) → (is_lt (key_cmp key e.0) && bytes_e
 own_behind key e =
     (elim (bytes_eq key.tx e.0.tx) as (λ b. bytes_eq key.tx e.0.tx ≡ b → (is_lt (key_cmp key e.0) && b) ≡ (b && nat_lt key.seq e.0.seq)) [
       | true ↦ λ is. always (is_lt (key_cmp key e.0)) ∙ by_number key e.0 (one_text key.tx e.0.tx is)
-      | false ↦ λ is. never (is_lt (key_cmp key e.0))
+      | false ↦ λ is. and_right (is_lt (key_cmp key e.0)) false refl
     ]) refl
 
 -- The live events of a key's transaction in front of the key are those of smaller numbers.
 pub own_before_key : (key : KeyName) (es : List Entry) → own_events key.tx (before_key key es) ≡ filter (λ e. nat_lt e.0.seq key.seq) (live_of key.tx es)
 own_before_key key es =
-    twice (λ (e : Entry). bytes_eq key.tx e.0.tx) (λ e. is_lt (key_cmp e.0 key)) (live es)
+    filter_twice (λ (e : Entry). bytes_eq key.tx e.0.tx) (λ e. is_lt (key_cmp e.0 key)) (live es)
     ∙ ap (λ p. filter p (live es)) (fun_ext (own_in_front key))
-    ∙ sym (twice (λ (e : Entry). nat_lt e.0.seq key.seq) (λ e. bytes_eq key.tx e.0.tx) (live es))
+    ∙ sym (filter_twice (λ (e : Entry). nat_lt e.0.seq key.seq) (λ e. bytes_eq key.tx e.0.tx) (live es))
 
 -- Those behind it are those of greater numbers.
 pub own_behind_key : (key : KeyName) (es : List Entry) → own_events key.tx (behind_key key es) ≡ filter (λ e. nat_lt key.seq e.0.seq) (live_of key.tx es)
 own_behind_key key es =
-    twice (λ (e : Entry). bytes_eq key.tx e.0.tx) (λ e. is_lt (key_cmp key e.0)) (live es)
+    filter_twice (λ (e : Entry). bytes_eq key.tx e.0.tx) (λ e. is_lt (key_cmp key e.0)) (live es)
     ∙ ap (λ p. filter p (live es)) (fun_ext (own_behind key))
-    ∙ sym (twice (λ (e : Entry). nat_lt key.seq e.0.seq) (λ e. bytes_eq key.tx e.0.tx) (live es))
+    ∙ sym (filter_twice (λ (e : Entry). nat_lt key.seq e.0.seq) (λ e. bytes_eq key.tx e.0.tx) (live es))

@@ -1,5 +1,5 @@
 -- What single steps of the ledger do.
-use Rattle.std.{proofs.Common.{◌≡◌, ◌+◌, Bool, true, false, cond, [], ◌∷◌, Option, Some, None, refl, ap, sym, ◌∙◌, nat_le, is_eq, Ordering, Less, Equal, Greater}, specs.Ordering.eq_by_cmp, specs.FinMap.FinMap, proofs.lemmas.Cmp.tied_itself}
+use Rattle.std.{proofs.Common.{◌≡◌, ◌+◌, Bool, true, false, cond, [], ◌∷◌, Option, Some, None, refl, ap, sym, ◌∙◌, nat_le, is_eq}, specs.Ordering.eq_by_cmp, specs.Cmp.Equal-is, specs.FinMap.FinMap, proofs.lemmas.Cmp.tied_itself}
 use Rattle.std.specs.FinMap as finite
 use Rattle.ledger_model.{specs.declared.command.Command.TheVariants.{Void, Restore}, specs.declared.answer.Answer.Answer, specs.declared.answer.Answer.TheVariants.{Accepted, Refused}, specs.declared.answer.Refusal.Refusal, specs.declared.answer.Refusal.TheVariants.{AlreadyVoided, NotVoided, ChangesExhausted}, specs.Key.{KeyName, key_cmp}, specs.Limits.Bounds, specs.Content.{Content, Stored}, specs.Step.{step, answer_to_void, answer_to_voided, accepted_within_limit, content_after, marked_at}, specs.Laws.{IsAccepted, AreAccepted, left_by}, proofs.Keys.{key_total, exact_keys}}
 
@@ -17,33 +17,27 @@ not_refused_else false why other h = absurd h
 pub counted : (limits : Bounds) (c : Content) → IsAccepted (accepted_within_limit limits c) → accepted_within_limit limits c ≡ Accepted (c.changes + 1)
 counted limits c h = ap (λ b. cond b (Refused ChangesExhausted) (Accepted (c.changes + 1))) (not_refused (nat_le limits.changes c.changes) ChangesExhausted (Accepted (c.changes + 1)) h).0
 
--- what an accepted void found: an event that was not voided
-pub record FoundLive (limits : Bounds) (c : Content) (o : Option Stored) : Type 0 where
+-- what an accepted change of an event found: an event that was voided or not
+pub record Found (limits : Bounds) (c : Content) (o : Option Stored) (voided : Bool) (answer : Answer) : Type 0 where
   pub stored : Stored
   pub found : o ≡ Some stored
-  pub live : stored.voided ≡ false
+  pub was : stored.voided ≡ voided
   pub left : IsAccepted (accepted_within_limit limits c)
-  pub told : answer_to_void limits c o ≡ Accepted (c.changes + 1)
+  pub told : answer ≡ Accepted (c.changes + 1)
 
-pub found_live : (limits : Bounds) (c : Content) (o : Option Stored) → IsAccepted (answer_to_void limits c o) → FoundLive limits c o
+-- a void found an event that was not voided
+pub found_live : (limits : Bounds) (c : Content) (o : Option Stored) → IsAccepted (answer_to_void limits c o) → Found limits c o false (answer_to_void limits c o)
 found_live limits c None h = absurd h
 found_live limits c (Some s) h =
     let parts = not_refused s.voided AlreadyVoided (accepted_within_limit limits c) h in
-    record { stored = s; found = refl; live = parts.0; left = parts.1; told = ap (λ b. cond b (Refused AlreadyVoided) (accepted_within_limit limits c)) parts.0 ∙ counted limits c parts.1 }
+    record { stored = s; found = refl; was = parts.0; left = parts.1; told = ap (λ b. cond b (Refused AlreadyVoided) (accepted_within_limit limits c)) parts.0 ∙ counted limits c parts.1 }
 
--- what an accepted restoration or erasure found: an event that was voided
-pub record FoundVoided (limits : Bounds) (c : Content) (o : Option Stored) : Type 0 where
-  pub stored : Stored
-  pub found : o ≡ Some stored
-  pub voided : stored.voided ≡ true
-  pub left : IsAccepted (accepted_within_limit limits c)
-  pub told : answer_to_voided limits c o ≡ Accepted (c.changes + 1)
-
-pub found_voided : (limits : Bounds) (c : Content) (o : Option Stored) → IsAccepted (answer_to_voided limits c o) → FoundVoided limits c o
+-- a restoration or an erasure found one that was voided
+pub found_voided : (limits : Bounds) (c : Content) (o : Option Stored) → IsAccepted (answer_to_voided limits c o) → Found limits c o true (answer_to_voided limits c o)
 found_voided limits c None h = absurd h
 found_voided limits c (Some s) h =
     let parts = not_refused_else s.voided NotVoided (accepted_within_limit limits c) h in
-    record { stored = s; found = refl; voided = parts.0; left = parts.1; told = ap (λ b. cond b (accepted_within_limit limits c) (Refused NotVoided)) parts.0 ∙ counted limits c parts.1 }
+    record { stored = s; found = refl; was = parts.0; left = parts.1; told = ap (λ b. cond b (accepted_within_limit limits c) (Refused NotVoided)) parts.0 ∙ counted limits c parts.1 }
 
 shadowed : {A : Type 0} (b : Bool) (x y z : A) → cond b x (cond b y z) ≡ cond b x z
 shadowed true x y z = refl
@@ -57,18 +51,13 @@ inserted_twice m key s t = finite.same_map key_total exact_keys _ _ (λ q.
     ∙ shadowed (eq_by_cmp key_cmp q key) (Some t) (Some s) (finite.get m q)
     ∙ sym (finite.get-insert key_total m key t q))
 
-equal : (o : Ordering) → is_eq o ≡ true → o ≡ Equal
-equal Less e = cc
-equal Equal e = refl
-equal Greater e = cc
-
 -- what is inserted is there
 pub inserted_there : (m : FinMap key_cmp Stored) (key : KeyName) (s : Stored) → finite.get (finite.insert m key s) key ≡ Some s
 inserted_there m key s = finite.get-insert key_total m key s key ∙ ap (λ o. cond (is_eq o) (Some s) (finite.get m key)) (tied_itself key_total key)
 
 -- a value at a tied key is the value at the key
 at_tied : (m : FinMap key_cmp Stored) (key q : KeyName) (s : Stored) (b : Bool) → finite.get m key ≡ Some s → eq_by_cmp key_cmp q key ≡ b → cond b (Some s) (finite.get m q) ≡ finite.get m q
-at_tied m key q s true h e = sym h ∙ ap (finite.get m) (sym (exact_keys q key (equal (key_cmp q key) e)))
+at_tied m key q s true h e = sym h ∙ ap (finite.get m) (sym (exact_keys q key ((Equal-is (key_cmp q key)).0 e)))
 at_tied m key q s false h e = refl
 
 -- what is at a key may be inserted there
@@ -76,13 +65,12 @@ pub inserted_same : (m : FinMap key_cmp Stored) (key : KeyName) (s : Stored) →
 inserted_same m key s h = finite.same_map key_total exact_keys _ _ (λ q.
     finite.get-insert key_total m key s q ∙ at_tied m key q s (eq_by_cmp key_cmp q key) h refl)
 
--- the content after an accepted void
-pub after_void : (limits : Bounds) (c : Content) (key : KeyName) (f : FoundLive limits c (finite.get c.events key))
+-- the content after an accepted void, and after an accepted restoration
+pub after_void : (limits : Bounds) (c : Content) (key : KeyName) (f : Found limits c (finite.get c.events key) false (answer_to_void limits c (finite.get c.events key)))
     → (step limits c (Void key)).0 ≡ record { events = finite.insert c.events key (record { event = f.stored.event; voided = true }); changes = c.changes + 1 }
 after_void limits c key f = ap (content_after c (Void key)) f.told ∙ ap (λ o. record { events = marked_at c.events key true o; changes = c.changes + 1 }) f.found
 
--- the content after an accepted restoration
-pub after_restore : (limits : Bounds) (c : Content) (key : KeyName) (f : FoundVoided limits c (finite.get c.events key))
+pub after_restore : (limits : Bounds) (c : Content) (key : KeyName) (f : Found limits c (finite.get c.events key) true (answer_to_voided limits c (finite.get c.events key)))
     → (step limits c (Restore key)).0 ≡ record { events = finite.insert c.events key (record { event = f.stored.event; voided = false }); changes = c.changes + 1 }
 after_restore limits c key f = ap (content_after c (Restore key)) f.told ∙ ap (λ o. record { events = marked_at c.events key false o; changes = c.changes + 1 }) f.found
 
@@ -101,7 +89,7 @@ module _ (limits : Bounds) (c : Content) (key : KeyName) where
       let once : voided.events ≡ finite.insert c.events key s = ap (λ (d : Content). d.events) (after_void limits c key f) in
       let found : Some g.stored ≡ Some s = sym g.found ∙ ap (λ m. finite.get m key) once ∙ inserted_there c.events key s in
       let stored : g.stored ≡ s = cc in
-      let same : f.stored ≡ t = λ i. record { event = f.stored.event; voided = f.live i } in
+      let same : f.stored ≡ t = λ i. record { event = f.stored.event; voided = f.was i } in
       ap (λ (d : Content). d.events) (after_restore limits voided key g)
       ∙ (λ i. finite.insert (once i) key (record { event = (stored i).event; voided = false }))
       ∙ inserted_twice c.events key s t

@@ -2,6 +2,7 @@ pub mod Events
 pub mod Ids
 pub mod Keys
 pub mod Rising
+pub mod Cuts
 pub mod LedgerLemmas
 pub mod OrderOfReadings
 pub mod ListedRuns
@@ -10,7 +11,6 @@ pub mod Exchanges
 pub mod Transactions
 pub mod Deliveries
 pub mod ReachedContents
-pub mod Stored
 pub mod Bounds
 pub mod FigureBounds
 pub mod GapLemmas

@@ -1,5 +1,5 @@
 -- Steps and runs of the ledger on the list of its entries, which computes.
-use Rattle.std.{proofs.Common.{◌≡◌, ℕ, ◌+◌, Bool, true, false, cond, not, ◌&&◌, List, [], ◌∷◌, Option, Some, None, refl, ap, sym, ◌∙◌, nat_le, nat_lt, length}, specs.Ordering.eq_by_cmp, specs.Cmp.eq_by_cmp_equiv, specs.FinMap.FinMap, specs.FinMap.Entries.{find, find-where_key, is_sorted-where_key, same_entries}}
+use Rattle.std.{proofs.Common.{◌≡◌, ℕ, ◌+◌, Bool, true, false, cond, not, ◌&&◌, List, [], ◌∷◌, Option, Some, None, refl, ap, sym, ◌∙◌, nat_le, nat_lt, length}, specs.Ordering.eq_by_cmp, specs.Cmp.eq_by_cmp_equiv, specs.FinMap.FinMap, proofs.lemmas.List.nil_from_length, specs.FinMap.Entries.{find, find-where_key, is_sorted-where_key, same_entries}}
 use Rattle.std.specs.FinMap as finite
 use Rattle.ledger_model.{specs.declared.command.Command.Command, specs.declared.command.Command.TheVariants.{Deliver, Void, Restore, Erase}, specs.declared.answer.Answer.Answer, specs.declared.answer.Answer.TheVariants.{Accepted, Repeat, Refused}, specs.declared.answer.Refusal.TheVariants.{ConflictingEvent, TooManyTransactions, EventsFull, ReadingsFull, NoSuchEvent, AlreadyVoided, NotVoided, ChangesExhausted}, specs.Key.{KeyName, key_cmp}, specs.Event.{EventContent, same_event}, specs.Limits.Bounds, specs.Content.{Content, Stored, Entry, entries, empty_content, transactions_of, has_transaction}, specs.Step.{step, answer, answer_to_deliver, answer_to_void, answer_to_voided, readings_stored, content_after, events_after, marked_at}, specs.Entries.{entries_marked_at, entries_without, entries_after}, specs.Laws.{answers, left_by}, proofs.Keys.{key_total, exact_keys}}
 
@@ -36,23 +36,17 @@ told limits l (Void key) = told_void limits l (find key_cmp key l.0)
 told limits l (Restore key) = told_voided limits l (find key_cmp key l.0)
 told limits l (Erase key) = told_voided limits l (find key_cmp key l.0)
 
+told_voided_is : (limits : Bounds) (c : Content) (key : KeyName) → answer_to_voided limits c (finite.get c.events key) ≡ told_voided limits (listed c) (find key_cmp key (entries c))
+told_voided_is limits c key = ap (answer_to_voided limits c) (finite.get-entries c.events key)
+    ∙ elim (find key_cmp key (entries c)) as (λ o. answer_to_voided limits c o ≡ told_voided limits (listed c) o) [ None ↦ refl | Some stored ↦ refl ]
+
 told_is : (limits : Bounds) (c : Content) (command : Command) → answer limits c command ≡ told limits (listed c) command
-told_is limits c (Deliver key event) = ap (answer_to_deliver limits c key event) (finite.get-entries c.events key) ∙ by_case (find key_cmp key (entries c)) where
-  by_case : (o : Option Stored) → answer_to_deliver limits c key event o ≡ told_deliver limits (listed c) key event o
-  by_case None = refl
-  by_case (Some stored) = refl
-told_is limits c (Void key) = ap (answer_to_void limits c) (finite.get-entries c.events key) ∙ by_case (find key_cmp key (entries c)) where
-  by_case : (o : Option Stored) → answer_to_void limits c o ≡ told_void limits (listed c) o
-  by_case None = refl
-  by_case (Some stored) = refl
-told_is limits c (Restore key) = ap (answer_to_voided limits c) (finite.get-entries c.events key) ∙ by_case (find key_cmp key (entries c)) where
-  by_case : (o : Option Stored) → answer_to_voided limits c o ≡ told_voided limits (listed c) o
-  by_case None = refl
-  by_case (Some stored) = refl
-told_is limits c (Erase key) = ap (answer_to_voided limits c) (finite.get-entries c.events key) ∙ by_case (find key_cmp key (entries c)) where
-  by_case : (o : Option Stored) → answer_to_voided limits c o ≡ told_voided limits (listed c) o
-  by_case None = refl
-  by_case (Some stored) = refl
+told_is limits c (Deliver key event) = ap (answer_to_deliver limits c key event) (finite.get-entries c.events key)
+    ∙ elim (find key_cmp key (entries c)) as (λ o. answer_to_deliver limits c key event o ≡ told_deliver limits (listed c) key event o) [ None ↦ refl | Some stored ↦ refl ]
+told_is limits c (Void key) = ap (answer_to_void limits c) (finite.get-entries c.events key)
+    ∙ elim (find key_cmp key (entries c)) as (λ o. answer_to_void limits c o ≡ told_void limits (listed c) o) [ None ↦ refl | Some stored ↦ refl ]
+told_is limits c (Restore key) = told_voided_is limits c key
+told_is limits c (Erase key) = told_voided_is limits c key
 
 turned : {A : Type 0} (b : Bool) (x y : A) → cond (not b) x y ≡ cond b y x
 turned true x y = refl
@@ -127,12 +121,8 @@ listed_left_is limits c (command ∷ commands) =
     listed_left_is limits (step limits c command).0 commands
     ∙ ap (λ (p : Listed × Answer). listed_left limits p.0 commands) (stepped_is limits c command)
 
-no_length : (es : List Entry) → length es ≡ 0 → es ≡ []
-no_length [] h = refl
-no_length (e ∷ es) h = cc
-
 pub none_listed : entries empty_content ≡ []
-none_listed = no_length (entries empty_content) (sym (finite.len-entries finite.empty) ∙ finite.len-empty key_cmp Stored)
+none_listed = nil_from_length (entries empty_content) (sym (finite.len-entries finite.empty) ∙ finite.len-empty key_cmp Stored)
 
 nothing : listed empty_content ≡ ([], 0)
 nothing = λ i. (none_listed i, 0)

@@ -1,15 +1,7 @@
 -- What one more live event changes: only in its transaction.
-use Rattle.std.{proofs.Common.{◌≡◌, ℕ, ◌+◌, ◌==◌, ◌≤◌, Bool, true, false, cond, not, ◌||◌, List, [], ◌∷◌, ◌++◌, Option, length, map, refl, sym, ap, ◌∙◌, bytes_eq, arith}, specs.List.{filter, filter_map, flat_map, list_any, sum_by}, proofs.lemmas.List.Elements.filter-append, proofs.lemmas.List.Sums.{sum_by-append, sum_by-cons, length-filter}, proofs.lemmas.Grind.flat_map-append, proofs.lemmas.Cmp.nat_list_eq_equiv}
-use Rattle.ledger_model.{specs.declared.reading.Direction.Direction, specs.Event.{MeterReading, toward}, specs.Content.{Entry, has_transaction, live, live_of, transactions_of}, specs.Energy.{Pair, followed, pairs, pairs_of}, specs.Evse.{evse_of, transactions_at, first_or_zero}, specs.Deltas.{across, came_by, gone_by, if_read, kept_by, most_for, own_events, own_readings, pairs_between, IsOneMore, pairs_less, pairs_more, pairs_kept, read_or, reading_before, reading_behind}, proofs.SumLemmas.{sum_by-flat_map, sum_by-filter_cons}, proofs.Splices.{few_across, few_between, followed_cut}, proofs.SumsByTransaction.{others, same_text, sum_by_one, sums_differ_by_one, counts_differ_by_one}, proofs.TransactionLemmas.any-map}
-
--- The ids of events' transactions.
-abbrev ids : List Entry → List (List ℕ)
-ids es = map (λ e. e.0.tx) es
-
--- The ids of other transactions, with an event of this one among others.
-others_ids : (e : Entry) (front back : List Entry) → others e.0.tx (ids (front ++ back)) ≡ others e.0.tx (ids (front ++ e ∷ back))
-others_ids e [] back = sym (ap (λ b. cond (not b) (e.0.tx ∷ others e.0.tx (ids back)) (others e.0.tx (ids back))) (same_text e.0.tx))
-others_ids e (x ∷ front) back = ap (λ ts. cond (not (bytes_eq e.0.tx x.0.tx)) (x.0.tx ∷ ts) ts) (others_ids e front back)
+use Rattle.std.{proofs.Common.{◌≡◌, ℕ, ◌+◌, ◌==◌, ◌≤◌, Bool, true, false, cond, List, [], ◌∷◌, ◌++◌, Option, length, refl, sym, ap, ◌∙◌, bytes_eq, arith}, specs.List.{filter_map, flat_map, list_any, sum_by}, proofs.lemmas.List.Elements.filter-append, proofs.lemmas.List.Sums.{sum_by-append, length-filter}, proofs.lemmas.Grind.flat_map-append, proofs.lemmas.Bool.or_parts, proofs.lemmas.Cmp.nat_list_eq_equiv}
+use Rattle.ledger_model.{specs.declared.reading.Direction.Direction, specs.Event.{MeterReading, toward}, specs.Content.{Entry, has_transaction, live, live_of, transactions_of}, specs.Energy.{Pair, followed, pairs, pairs_of}, specs.Evse.{evse_of, transactions_at, first_or_zero}, specs.Deltas.{across, came_by, gone_by, if_read, kept_by, most_for, own_events, own_readings, pairs_between, IsOneMore, pairs_less, pairs_more, pairs_kept, read_or, reading_before, reading_behind}, proofs.SumLemmas.{passed_sum, sum_by-flat_map, taken}, proofs.Transactions.{any-map, ids, now_there, others_ids}, proofs.Splices.{few_across, few_between, followed_cut}, proofs.SumsByTransaction.{others, same_text, sum_by_one, sums_differ_by_one, counts_differ_by_one}}
+pub use Rattle.ledger_model.proofs.SumLemmas.{passed_sum, taken}
 
 -- The events of a transaction, with one among others.
 own_with : (e : Entry) (front back : List Entry) → own_events e.0.tx (front ++ e ∷ back) ≡ own_events e.0.tx front ++ e ∷ own_events e.0.tx back
@@ -28,13 +20,8 @@ own_else u e front back apart =
 none_own : (t : List ℕ) (es : List Entry) → list_any (bytes_eq t) (ids es) ≡ false → own_events t es ≡ []
 none_own t [] none = refl
 none_own t (e ∷ es) none =
-    (elim (bytes_eq t e.0.tx) as (λ b. (b || list_any (bytes_eq t) (ids es)) ≡ false → cond b (e ∷ own_events t es) (own_events t es) ≡ []) [
-      | true ↦ λ h. absurd (true_not h)
-      | false ↦ λ h. none_own t es h
-    ]) none
-  where
-    true_not : true ≡ false → ⊥
-    true_not h = cc
+    let parts = or_parts (bytes_eq t e.0.tx) (list_any (bytes_eq t) (ids es)) none in
+    ap (λ b. cond b (e ∷ own_events t es) (own_events t es)) parts.0 ∙ none_own t es parts.1
 
 -- The live events of the transaction, without the event.
 pub live_without : (es more front : List Entry) (e : Entry) (back : List Entry) → IsOneMore es more front e back → live_of e.0.tx es ≡ own_events e.0.tx front ++ own_events e.0.tx back
@@ -189,29 +176,9 @@ few_moved d front e back = few_read (toward d e.1.event.readings) (reading_befor
 pub evse_else : (es more front : List Entry) (e : Entry) (back : List Entry) (u : List ℕ) → IsOneMore es more front e back → bytes_eq u e.0.tx ≡ false → evse_of u more ≡ evse_of u es
 evse_else es more front e back u one apart = ap (λ l. first_or_zero (filter_map (λ x. x.1.event.evse) l)) (live_else es more front e back u one apart)
 
--- What is taken of a sum where a test holds.
-abbrev pub taken : Bool → ℕ → ℕ
-taken b n = cond b n 0
-
--- A sum over those that pass a test, as one over all.
-pub passed_sum : {X : Type 0} (measure : X → ℕ) (p : X → Bool) (xs : List X) → sum_by measure (filter p xs) ≡ sum_by (λ x. taken (p x) (measure x)) xs
-passed_sum measure p [] = refl
-passed_sum measure p (x ∷ xs) =
-    let rest : sum_by measure (filter p xs) ≡ sum_by (λ y. taken (p y) (measure y)) xs = passed_sum measure p xs in
-    sum_by-filter_cons measure p x xs ∙ ap (λ n. taken (p x) (measure x) + n) rest ∙ sym (sum_by-cons (λ y. taken (p y) (measure y)) x xs)
-
 pub nothing_taken : (b : Bool) → taken b 0 ≡ 0
 nothing_taken true = refl
 nothing_taken false = refl
-
--- The event's transaction has a live event with it.
-now_live : (e : Entry) (front back : List Entry) → has_transaction e.0.tx (front ++ e ∷ back) ≡ true
-now_live e [] back = ap (λ b. b || has_transaction e.0.tx back) (same_text e.0.tx)
-now_live e (x ∷ front) back = ap (λ b. bytes_eq e.0.tx x.0.tx || b) (now_live e front back) ∙ or_true (bytes_eq e.0.tx x.0.tx)
-  where
-    or_true : (b : Bool) → (b || true) ≡ true
-    or_true true = refl
-    or_true false = refl
 
 -- How many transactions an EVSE has.
 pub evse_counts : (evse : ℕ) (es more front : List Entry) (e : Entry) (back : List Entry) → IsOneMore es more front e back
@@ -222,6 +189,6 @@ evse_counts evse es more front e back one =
     (ap (λ l. others e.0.tx (ids l)) one.less_live ∙ others_ids e front back ∙ ap (λ l. others e.0.tx (ids l)) (sym one.more_live))
     (λ u apart. ap (λ n. taken (n == evse) 1) (evse_else es more front e back u one (turned_apart e.0.tx u apart))) in
     let was = ap (λ b. taken b (g e.0.tx)) (any-map e.0.tx (live es)) in
-    let is = ap (λ b. taken b (h e.0.tx)) (any-map e.0.tx (live more) ∙ ap (has_transaction e.0.tx) one.more_live ∙ now_live e front back) in
+    let is = ap (λ b. taken b (h e.0.tx)) (any-map e.0.tx (live more) ∙ ap (has_transaction e.0.tx) one.more_live ∙ now_there e front back) in
     let less = length-filter (λ u. evse_of u es == evse) (transactions_of (live es)) in let many = length-filter (λ u. evse_of u more == evse) (transactions_of (live more)) in
     omega (arith, all, was, is, less, many)

@@ -1,7 +1,7 @@
 -- How figures and energies change with one more live event.
-use Rattle.std.{proofs.Common.{◌≡◌, ℕ, ◌+◌, ◌==◌, Bool, true, false, cond, not, ◌&&◌, T, List, [], ◌∷◌, Option, Some, None, is_some, length, map, refl, sym, ap, subst, ◌∙◌, arith}, specs.List.{filter, sum_by, count_by}, specs.Ordering.is_eq, specs.declared.cmp.Ordering.Ordering, specs.declared.cmp.Ordering.TheVariants.{Less, Equal, Greater}, specs.FinMap.Entries.{find, below_all, length-put}, proofs.lemmas.List.length-append}
+use Rattle.std.{proofs.Common.{◌≡◌, ℕ, ◌+◌, ◌==◌, Bool, true, false, cond, ◌&&◌, List, ◌∷◌, Option, Some, None, is_some, length, map, refl, sym, ap, ◌∙◌, arith}, specs.List.{filter, sum_by, count_by}, specs.FinMap.Entries.{find, put, length-put}, proofs.lemmas.List.{length-append, length-map}}
 use Rattle.energy_flow.specs.Flow.{Energy, plus}
-use Rattle.ledger_model.{specs.Periods.Periods, specs.declared.reading.Direction.Direction, specs.declared.command.Command.TheVariants.{Deliver, Void, Restore, Erase}, specs.Event.EventContent, specs.Key.{KeyName, key_cmp}, specs.Content.{Entry, Stored, live, transactions_of, has_transaction}, specs.Entries.{IsRising, entries_after, entries_without, entries_marked_at}, specs.declared.order.Order.Order, specs.Energy.{Pair, difference, energy, energy_in, energy_of, energy_of_by, energy_over, energy_within, pairs, parts_of, parts_over}, specs.Parts.Part, specs.Evse.{evse_of, energy_at_by}, specs.Gaps.{missing, numbers_of}, specs.Complete.{is_complete, starts_and_ends}, specs.Deltas.{IsOneMore, came_by, flow_if, gone_by}, proofs.Keys.{key_total, exact_keys}, proofs.Rising.{first, second, below_less, find_below}, proofs.Transactions.transactions_added, proofs.FigureBounds.live_and_voided, proofs.OneMore.{live_else, by_transaction_sums, station_moved, transaction_moved, passed_sum, taken}, proofs.OrderLemmas.evse_sums, proofs.SumLemmas.sum_by-flat_map, specs.DeltaLaws.count_in, proofs.OneMoreByCommand.{delivered_more, restored_more, voided_less, erased_same, kept_below}}
+use Rattle.ledger_model.{specs.Periods.Periods, specs.declared.reading.Direction.Direction, specs.declared.command.Command.TheVariants.{Deliver, Void, Restore, Erase}, specs.Event.EventContent, specs.Key.{KeyName, key_cmp}, specs.Content.{Entry, Stored, live, transactions_of, has_transaction}, specs.Entries.{IsRising, entries_after, entries_without, entries_marked_at}, specs.declared.order.Order.Order, specs.Energy.{Pair, difference, energy_of_by, pairs, parts_of, parts_over}, specs.Parts.Part, specs.Evse.{evse_of, energy_at_by}, specs.Gaps.{missing, numbers_of}, specs.Complete.{is_complete, starts_and_ends}, specs.Deltas.{IsOneMore, came_by, flow_if, gone_by}, proofs.Keys.{key_total}, proofs.Cuts.{behind, cut, cut_at, in_front, map_put_old}, proofs.Transactions.transactions_added, proofs.FigureBounds.live_and_voided, proofs.OneMore.{live_else, by_transaction_sums, station_moved, transaction_moved, passed_sum, taken}, proofs.OrderLemmas.evse_sums, proofs.SumLemmas.sum_by-flat_map, specs.DeltaLaws.EnergiesMove, proofs.EnergyLemmas.same_energy, proofs.OneMoreByCommand.{delivered_more, restored_more, voided_less, erased_same}}
 
 -- One event more is live.
 pub events_more : (es more front : List Entry) (e : Entry) (back : List Entry) → IsOneMore es more front e back → length (live more) ≡ length (live es) + 1
@@ -36,27 +36,6 @@ missing_more es more front e back one =
     (λ none. ap (λ l. missing (map (λ (x : Entry). x.0.seq) l)) none)
     (λ none. ap (λ l. missing (map (λ (x : Entry). x.0.seq) l)) none)
 
--- Energies with the same sums are the same.
-same_energy : (a b : Energy) → a.up ≡ b.up → a.down ≡ b.down → a ≡ b
-same_energy a b up down = λ i. record { up = up i; down = down i }
-
--- The energy of the station.
-pub energy_more : (d : Direction) (es more front : List Entry) (e : Entry) (back : List Entry) → IsOneMore es more front e back
-    → plus (energy d more) (energy_over (gone_by d front e back)) ≡ plus (energy d es) (energy_over (came_by d front e back))
-energy_more d es more front e back one =
-    same_energy (plus (energy d more) (energy_over (gone_by d front e back)))
-    (plus (energy d es) (energy_over (came_by d front e back))) (station_moved d (λ p. (difference p).up) es more front e back one)
-    (station_moved d (λ p. (difference p).down) es more front e back one)
-
--- The energy of the event's transaction.
-pub energy_of_more : (d : Direction) (es more front : List Entry) (e : Entry) (back : List Entry) → IsOneMore es more front e back
-    → plus (energy_of d e.0.tx more) (energy_over (gone_by d front e back)) ≡ plus (energy_of d e.0.tx es) (energy_over (came_by d front e back))
-energy_of_more d es more front e back one =
-    same_energy (plus (energy_of d e.0.tx more) (energy_over (gone_by d front e back)))
-    (plus (energy_of d e.0.tx es) (energy_over (came_by d front e back)))
-    (transaction_moved d (λ p. (difference p).up) es more front e back one)
-    (transaction_moved d (λ p. (difference p).down) es more front e back one)
-
 -- A sum over the parts of differences.
 part_sums : (d : Direction) (f : Part → ℕ) (period : Periods) (es more front : List Entry) (e : Entry) (back : List Entry) → IsOneMore es more front e back
     → sum_by f (parts_over period (pairs d more)) + sum_by f (parts_over period (gone_by d front e back))
@@ -75,18 +54,6 @@ quarter_sums d f period q es more front e back one =
     let all = part_sums d (λ t. taken (test t) (f t)) period es more front e back one in
     let passed = λ (ps : List Pair). passed_sum f test (parts_over period ps) in
     omega (arith, all, passed (pairs d more), passed (gone_by d front e back), passed (pairs d es), passed (came_by d front e back))
-
--- The energy of a period.
-pub energy_in_more : (d : Direction) (period : Periods) (q : ℕ) (es more front : List Entry) (e : Entry) (back : List Entry) → IsOneMore es more front e back
-    → plus (energy_in d period q more) (energy_within period q (gone_by d front e back)) ≡ plus (energy_in d period q es) (energy_within period q (came_by d front e back))
-energy_in_more d period q es more front e back one =
-    same_energy (plus (energy_in d period q more) (energy_within period q (gone_by d front e back))) (plus (energy_in d period q es) (energy_within period q (came_by d front e back)))
-    (quarter_sums d (λ t. t.1.up) period q es more front e back one) (quarter_sums d (λ t. t.1.down) period q es more front e back one)
-
--- How many parts a period has.
-pub parts_in_more : (d : Direction) (period : Periods) (q : ℕ) (es more front : List Entry) (e : Entry) (back : List Entry) → IsOneMore es more front e back
-    → count_in period q (pairs d more) + count_in period q (gone_by d front e back) ≡ count_in period q (pairs d es) + count_in period q (came_by d front e back)
-parts_in_more d period q es more front e back one = part_sums d (λ t. cond (t.0 == q) 1 0) period es more front e back one
 
 if_up : (b : Bool) (flow : Energy) → (flow_if b flow).up ≡ taken b flow.up
 if_up true flow = refl
@@ -110,22 +77,36 @@ energy_at_more order d evse es more front e back one =
     ∙ evse_sums order d (λ p. (difference p).down) evse es more front e back one
     ∙ ap (λ n. (energy_at_by order d evse es).down + n) (sym (if_down is (energy_of_by order d e.0.tx more))))
 
+-- How energies move.
+pub energies_move : (d : Direction) (es more front : List Entry) (e : Entry) (back : List Entry) → IsOneMore es more front e back → EnergiesMove d es more front e back
+energies_move d es more front e back one =
+    let station = λ (f : Pair → ℕ). station_moved d f es more front e back one in
+    let transaction = λ (f : Pair → ℕ). transaction_moved d f es more front e back one in
+    record {
+      station = same_energy _ _ (station (λ p. (difference p).up)) (station (λ p. (difference p).down));
+      transaction = same_energy _ _ (transaction (λ p. (difference p).up)) (transaction (λ p. (difference p).down));
+      quarter = λ period q. same_energy _ _ (quarter_sums d (λ t. t.1.up) period q es more front e back one) (quarter_sums d (λ t. t.1.down) period q es more front e back one);
+      quarter_pairs = λ period q. part_sums d (λ t. cond (t.0 == q) 1 0) period es more front e back one;
+      evse = λ order evse. energy_at_more order d evse es more front e back one;
+    }
+
 -- As many events are stored after a mark.
 marked_length : (es : List Entry) (key : KeyName) (voided : Bool) (s : Stored) → IsRising es → find key_cmp key es ≡ Some s → length (entries_marked_at es key voided (find key_cmp key es)) ≡ length es
 marked_length es key voided s rising there =
-    ap (λ o. length (entries_marked_at es key voided o)) there
-    ∙ length-put key_cmp key_total key (record { event = s.event; voided = voided }) es rising ∙ ap (λ (o : Option Stored). cond (is_some o) (length es) (length es + 1)) there
+    let v : Stored = record { event = s.event; voided = voided } in
+    let none : Entry → ℕ = λ e. 0 in
+    ap (λ o. length (entries_marked_at es key voided o)) there ∙ sym (length-map (put key_cmp key v es) none)
+    ∙ ap length (map_put_old key none v s es rising there refl) ∙ length-map es none
 
 -- One event less is stored after an erasure.
 erased_length : (es : List Entry) (key : KeyName) (s : Stored) → IsRising es → find key_cmp key es ≡ Some s → length (entries_without key es) + 1 ≡ length es
-erased_length [] key s rising there = cc
-erased_length (e ∷ es) key s rising there =
-    (elim (key_cmp key e.0) as (λ (o : Ordering). key_cmp key e.0 ≡ o → cond (is_eq o) (Some e.1) (find key_cmp key es) ≡ Some s
-    → length (cond (not (is_eq o)) (e ∷ entries_without key es) (entries_without key es)) + 1 ≡ length (e ∷ es)) [
-      | Less ↦ λ lt some. let none = find_below key es (below_less key e.0 es lt (first _ _ rising)) in cc
-      | Equal ↦ λ eq some. let kept = ap length (kept_below key es (subst (λ k. T (below_all key_cmp k es)) (sym (exact_keys key e.0 eq)) (first _ _ rising))) in omega (arith, kept)
-      | Greater ↦ λ gt some. omega (arith, erased_length es key s (second _ _ rising) some)
-    ]) refl there
+erased_length es key s rising there = omega (
+  arith,
+  ap length (cut key es rising).without,
+  ap length (cut_at key s es rising there),
+  length-append (in_front key es) (behind key es),
+  length-append (in_front key es) ((key, s) ∷ behind key es),
+)
 
 -- A delivery of a new key leaves as many events voided.
 pub voided_delivered : (es : List Entry) (key : KeyName) (event : EventContent) → IsRising es → find key_cmp key es ≡ None

@@ -1,42 +1,19 @@
 -- The readings of a transaction in either order, with one event more.
-use Rattle.std.{proofs.Common.{◌≡◌, ℕ, ◌+◌, ◌*◌, ◌<◌, ◌≤◌, Bool, false, cond, not, ◌||◌, List, [], ◌∷◌, ◌++◌, length, map, refl, sym, ap, subst, ◌∙◌, ⊎_elim, bytes_eq, eqb, nat_lt, arith}, specs.List.{filter, flat_map, sum_by, zip}, proofs.Math.Path.fun_ext, proofs.lemmas.Bool.{cases_lt, eq-eqb, ne_eqb, lt-ltb, le-ltb}, proofs.lemmas.Grind.flat_map-append, proofs.lemmas.List.Elements.filter-append, proofs.lemmas.List.Sums.sum_by-append}
-use Rattle.ledger_model.{specs.declared.order.Order.Order, specs.declared.order.Order.TheVariants.{Sequence, Moment}, specs.declared.reading.Direction.Direction, specs.Content.{Entry, live, live_of, transactions_of}, specs.Deltas.{before_key, behind_key, own_events, IsOneMore}, specs.Energy.{Pair, all_pairs_by, followed, pairs_by, readings_by, readings_of}, specs.Event.{MeterReading, toward}, specs.Evse.{evse_of, transactions_at}, specs.InTime.{across_runs, in_order, in_pairs, runs}, specs.ReadingOrder.{Numbered, bare, is_own, numbered, numbered_by, pairs_across, pairs_with, runs_of}, proofs.InTimeLemmas.{in_time-map, in_time-passed, in_time-sum}, proofs.KeysByNumber.{own_before_key, own_behind_key}, proofs.OneMore.{by_transaction_sums, evse_else, live_else, live_with, live_without, nothing_taken, passed_sum, taken}, proofs.RunLemmas.{AreForeign, AreOwn, few_by_runs, foreign_passed, one_run, own_passed, runs_sums}, proofs.SumLemmas.{sum_by-flat_map, sum_by-map}}
-
-module _ {X : Type 0} (when : X → ℕ) where
-  pub order-nil : (order : Order) → in_order order when [] ≡ []
-  order-nil Sequence = refl
-  order-nil Moment = refl
-
-  pub order-passed : (order : Order) (p : X → Bool) (xs : List X) → in_order order when (filter p xs) ≡ filter p (in_order order when xs)
-  order-passed Sequence p xs = refl
-  order-passed Moment p xs = in_time-passed when p xs
-
-  pub order-sum : (order : Order) (f : X → ℕ) (xs : List X) → sum_by f (in_order order when xs) ≡ sum_by f xs
-  order-sum Sequence f xs = refl
-  order-sum Moment f xs = in_time-sum when f xs
-
-order-map : {X Y : Type 0} (order : Order) (when : Y → ℕ) (h : X → Y) (xs : List X) → in_order order when (map h xs) ≡ map h (in_order order (λ x. when (h x)) xs)
-order-map Sequence when h xs = refl
-order-map Moment when h xs = in_time-map when h xs
+use Rattle.std.{proofs.Common.{◌≡◌, ℕ, ◌+◌, ◌*◌, ◌≤◌, Bool, true, false, not, ◌||◌, List, [], ◌∷◌, ◌++◌, length, map, refl, sym, ap, subst, ◌∙◌, bytes_eq, eqb, nat_lt, arith}, specs.List.{All, filter, flat_map, sum_by, zip}, proofs.Math.Path.fun_ext, proofs.lemmas.Bool.{eq-eqb, ltb-true, ne_eqb}, proofs.lemmas.Grind.flat_map-append, proofs.lemmas.List.{append-nil, length-map, map-append, map-id}, proofs.lemmas.Simd.map-map, proofs.lemmas.List.Elements.{All-head, All-tail, All-weaker, filter-append, filter_passes}}
+use Rattle.ledger_model.{specs.declared.order.Order.Order, specs.declared.order.Order.TheVariants.{Sequence}, specs.declared.reading.Direction.Direction, specs.Content.{Entry, live, live_of, transactions_of}, specs.Deltas.{before_key, behind_key, own_events, IsOneMore}, specs.Energy.{Pair, all_pairs_by, followed, pairs_by, readings_by, readings_of}, specs.Event.{MeterReading, toward}, specs.Evse.{evse_of, transactions_at}, specs.InTime.{across_runs, in_order, in_pairs, runs}, specs.ReadingOrder.{Numbered, bare, is_own, numbered, numbered_by, pairs_across, pairs_with, runs_of}, proofs.InTimeLemmas.{order-length, order-map, order-nil, order-passed}, proofs.KeysByNumber.{own_before_key, own_behind_key}, proofs.OneMore.{by_transaction_sums, evse_else, live_else, live_with, live_without, nothing_taken, passed_sum, taken}, proofs.RunLemmas.{AreForeign, AreOwn, few_by_runs, foreign_passed, one_run, own_passed, runs_sums}, proofs.SumLemmas.{sum_by-flat_map, sum_by-map}}
+pub use Rattle.ledger_model.proofs.InTimeLemmas.{order-nil}
 
 map-flat : {X Y Z : Type 0} (g : Y → Z) (h : X → List Y) (xs : List X) → map g (flat_map h xs) ≡ flat_map (λ x. map g (h x)) xs
 map-flat g h [] = refl
-map-flat g h (x ∷ xs) = map-apart g (h x) (flat_map h xs) ∙ ap (λ ys. map g (h x) ++ ys) (map-flat g h xs)
-  where
-    map-apart : {Y Z : Type 0} (g : Y → Z) (ys zs : List Y) → map g (ys ++ zs) ≡ map g ys ++ map g zs
-    map-apart g [] zs = refl
-    map-apart g (y ∷ ys) zs = ap (λ us. g y ∷ us) (map-apart g ys zs)
-
-numbers_off : (n : ℕ) (rs : List MeterReading) → map (λ (m : Numbered). m.1) (map (λ r. (n, r)) rs) ≡ rs
-numbers_off n [] = refl
-numbers_off n (r ∷ rs) = ap (λ ss. r ∷ ss) (numbers_off n rs)
+map-flat g h (x ∷ xs) = map-append g (h x) (flat_map h xs) ∙ ap (λ ys. map g (h x) ++ ys) (map-flat g h xs)
 
 -- Without their numbers they are the readings in that order.
 pub numbered_readings : (order : Order) (d : Direction) (tx : List ℕ) (es : List Entry) → map (λ n. n.1) (numbered_by order d tx es) ≡ readings_by order d tx es
 numbered_readings order d tx es =
     sym (order-map order (λ r. r.moment) (λ (n : Numbered). n.1) (flat_map (numbered d) (live_of tx es)))
     ∙ ap (in_order order (λ r. r.moment))
-    (map-flat (λ (n : Numbered). n.1) (numbered d) (live_of tx es) ∙ ap (λ h. flat_map h (live_of tx es)) (fun_ext (λ (e : Entry). numbers_off e.0.seq (toward d e.1.event.readings))))
+    (map-flat (λ (n : Numbered). n.1) (numbered d) (live_of tx es)
+    ∙ ap (λ h. flat_map h (live_of tx es)) (fun_ext (λ (e : Entry). map-map (λ (n : Numbered). n.1) (λ r. (e.0.seq, r)) (toward d e.1.event.readings) ∙ map-id (toward d e.1.event.readings))))
 
 zip-map : {X Y : Type 0} (g : X → Y) (xs ys : List X) → zip (map g xs) (map g ys) ≡ map (λ p. (g p.0, g p.1)) (zip xs ys)
 zip-map g [] ys = refl
@@ -51,14 +28,10 @@ pairs-map g (x ∷ xs) = zip-map g (x ∷ xs) xs
 numbered_pairs : (order : Order) (d : Direction) (tx : List ℕ) (es : List Entry) → map bare (in_pairs (numbered_by order d tx es)) ≡ pairs_by order d tx es
 numbered_pairs order d tx es = sym (pairs-map (λ (n : Numbered). n.1) (numbered_by order d tx es)) ∙ ap followed (numbered_readings order d tx es)
 
--- Numbers below another are not that one, and neither are those above it.
-foreign_below : (seq n : ℕ) (rs : List MeterReading) → n < seq → AreForeign (is_own seq) (map (λ r. (n, r)) rs)
-foreign_below seq n [] lt = tt
-foreign_below seq n (r ∷ rs) lt = (ne_eqb n seq (λ e. absurd (omega (arith, e, lt))), foreign_below seq n rs lt)
-
-foreign_above : (seq n : ℕ) (rs : List MeterReading) → seq < n → AreForeign (is_own seq) (map (λ r. (n, r)) rs)
-foreign_above seq n [] lt = tt
-foreign_above seq n (r ∷ rs) lt = (ne_eqb n seq (λ e. absurd (omega (arith, e, lt))), foreign_above seq n rs lt)
+-- Another number is not that one.
+other_foreign : (seq n : ℕ) (rs : List MeterReading) → (n ≡ seq → ⊥) → AreForeign (is_own seq) (map (λ r. (n, r)) rs)
+other_foreign seq n [] apart = tt
+other_foreign seq n (r ∷ rs) apart = (ne_eqb n seq apart, other_foreign seq n rs apart)
 
 all_own : (seq : ℕ) (rs : List MeterReading) → AreOwn (is_own seq) (map (λ r. (seq, r)) rs)
 all_own seq [] = tt
@@ -68,29 +41,11 @@ foreign-append : (seq : ℕ) (xs ys : List Numbered) → AreForeign (is_own seq)
 foreign-append seq [] ys a b = b
 foreign-append seq (x ∷ xs) ys a b = (a.0, foreign-append seq xs ys a.1 b)
 
-all_below : (d : Direction) (seq : ℕ) (es : List Entry) → AreForeign (is_own seq) (flat_map (numbered d) (filter (λ e. nat_lt e.0.seq seq) es))
-all_below d seq [] = tt
-all_below d seq (e ∷ es) = ⊎_elim
-    (λ (lt : e.0.seq < seq). subst
-    (λ b. AreForeign (is_own seq) (flat_map (numbered d) (cond b (e ∷ filter (λ e. nat_lt e.0.seq seq) es) (filter (λ e. nat_lt e.0.seq seq) es))))
-    (sym (lt-ltb e.0.seq seq lt))
-    (foreign-append seq (numbered d e) _ (foreign_below seq e.0.seq (toward d e.1.event.readings) lt) (all_below d seq es)))
-    (λ (ge : seq ≤ e.0.seq). subst
-    (λ b. AreForeign (is_own seq) (flat_map (numbered d) (cond b (e ∷ filter (λ e. nat_lt e.0.seq seq) es) (filter (λ e. nat_lt e.0.seq seq) es))))
-    (sym (le-ltb e.0.seq seq ge)) (all_below d seq es))
-    (cases_lt e.0.seq seq)
-
-all_above : (d : Direction) (seq : ℕ) (es : List Entry) → AreForeign (is_own seq) (flat_map (numbered d) (filter (λ e. nat_lt seq e.0.seq) es))
-all_above d seq [] = tt
-all_above d seq (e ∷ es) = ⊎_elim
-    (λ (lt : seq < e.0.seq). subst
-    (λ b. AreForeign (is_own seq) (flat_map (numbered d) (cond b (e ∷ filter (λ e. nat_lt seq e.0.seq) es) (filter (λ e. nat_lt seq e.0.seq) es))))
-    (sym (lt-ltb seq e.0.seq lt))
-    (foreign-append seq (numbered d e) _ (foreign_above seq e.0.seq (toward d e.1.event.readings) lt) (all_above d seq es)))
-    (λ (ge : e.0.seq ≤ seq). subst
-    (λ b. AreForeign (is_own seq) (flat_map (numbered d) (cond b (e ∷ filter (λ e. nat_lt seq e.0.seq) es) (filter (λ e. nat_lt seq e.0.seq) es))))
-    (sym (le-ltb seq e.0.seq ge)) (all_above d seq es))
-    (cases_lt seq e.0.seq)
+others_foreign : (d : Direction) (seq : ℕ) (es : List Entry) → All (λ e. e.0.seq ≡ seq → ⊥) es → AreForeign (is_own seq) (flat_map (numbered d) es)
+others_foreign d seq [] apart = tt
+others_foreign d seq (e ∷ es) apart = foreign-append seq (numbered d e) (flat_map (numbered d) es)
+    (other_foreign seq e.0.seq (toward d e.1.event.readings) (All-head (λ (x : Entry). x.0.seq ≡ seq → ⊥) e es apart))
+    (others_foreign d seq es (All-tail (λ (x : Entry). x.0.seq ≡ seq → ⊥) e es apart))
 
 module _ (d : Direction) (es more : List Entry) (e : Entry) (one : IsOneMore es more (before_key e.0 es) e (behind_key e.0 es)) where
   abbrev here : List Entry
@@ -99,11 +54,22 @@ module _ (d : Direction) (es more : List Entry) (e : Entry) (one : IsOneMore es 
   abbrev there : List Entry
   there = own_events e.0.tx (behind_key e.0 es)
 
+  abbrev AreOthers : List Entry → Type 0
+  AreOthers l = All (λ (x : Entry). x.0.seq ≡ e.0.seq → ⊥) l
+
   before_foreign : AreForeign (is_own e.0.seq) (flat_map (numbered d) here)
-  before_foreign = subst (λ l. AreForeign (is_own e.0.seq) (flat_map (numbered d) l)) (sym (own_before_key e.0 es)) (all_below d e.0.seq (live_of e.0.tx es))
+  before_foreign =
+      let less = λ (x : Entry). nat_lt x.0.seq e.0.seq in
+      let others : AreOthers (filter less (live_of e.0.tx es)) =
+      All-weaker (λ x. less x ≡ true) (λ x. x.0.seq ≡ e.0.seq → ⊥) (λ x lt same. absurd (let below = ltb-true x.0.seq e.0.seq lt in omega arith)) _ (filter_passes less (live_of e.0.tx es)) in
+      others_foreign d e.0.seq here (subst AreOthers (sym (own_before_key e.0 es)) others)
 
   behind_foreign : AreForeign (is_own e.0.seq) (flat_map (numbered d) there)
-  behind_foreign = subst (λ l. AreForeign (is_own e.0.seq) (flat_map (numbered d) l)) (sym (own_behind_key e.0 es)) (all_above d e.0.seq (live_of e.0.tx es))
+  behind_foreign =
+      let more = λ (x : Entry). nat_lt e.0.seq x.0.seq in
+      let others : AreOthers (filter more (live_of e.0.tx es)) =
+      All-weaker (λ x. more x ≡ true) (λ x. x.0.seq ≡ e.0.seq → ⊥) (λ x gt same. absurd (let above = ltb-true e.0.seq x.0.seq gt in omega arith)) _ (filter_passes more (live_of e.0.tx es)) in
+      others_foreign d e.0.seq there (subst AreOthers (sym (own_behind_key e.0 es)) others)
 
   -- by sequence: those in front, its own, and those behind
   with_it : flat_map (numbered d) (live_of e.0.tx more) ≡ flat_map (numbered d) here ++ (numbered d e ++ flat_map (numbered d) there)
@@ -115,11 +81,17 @@ module _ (d : Direction) (es more : List Entry) (e : Entry) (one : IsOneMore es 
   abbrev foreign : Numbered → Bool
   foreign n = not (is_own e.0.seq n)
 
+  -- those that pass a test
+  passed : (p : Numbered → Bool) → filter p (flat_map (numbered d) (live_of e.0.tx more))
+      ≡ filter p (flat_map (numbered d) here) ++ (filter p (numbered d e) ++ filter p (flat_map (numbered d) there))
+  passed p =
+      ap (filter p) with_it
+      ∙ filter-append p (flat_map (numbered d) here) (numbered d e ++ flat_map (numbered d) there)
+      ∙ ap (λ l. filter p (flat_map (numbered d) here) ++ l) (filter-append p (numbered d e) (flat_map (numbered d) there))
+
   struck_out : filter foreign (flat_map (numbered d) (live_of e.0.tx more)) ≡ flat_map (numbered d) (live_of e.0.tx es)
   struck_out =
-      ap (filter foreign) with_it
-      ∙ filter-append foreign (flat_map (numbered d) here) (numbered d e ++ flat_map (numbered d) there)
-      ∙ ap (λ l. filter foreign (flat_map (numbered d) here) ++ l) (filter-append foreign (numbered d e) (flat_map (numbered d) there))
+      passed foreign
       ∙ (λ i. (foreign_passed (is_own e.0.seq) (flat_map (numbered d) here) before_foreign).1 i
       ++ ((own_passed (is_own e.0.seq) (numbered d e) (all_own e.0.seq (toward d e.1.event.readings))).1 i
       ++ (foreign_passed (is_own e.0.seq) (flat_map (numbered d) there) behind_foreign).1 i))
@@ -127,17 +99,11 @@ module _ (d : Direction) (es more : List Entry) (e : Entry) (one : IsOneMore es 
 
   its_own : filter (is_own e.0.seq) (flat_map (numbered d) (live_of e.0.tx more)) ≡ numbered d e
   its_own =
-      ap (filter (is_own e.0.seq)) with_it
-      ∙ filter-append (is_own e.0.seq) (flat_map (numbered d) here) (numbered d e ++ flat_map (numbered d) there)
-      ∙ ap (λ l. filter (is_own e.0.seq) (flat_map (numbered d) here) ++ l) (filter-append (is_own e.0.seq) (numbered d e) (flat_map (numbered d) there))
+      passed (is_own e.0.seq)
       ∙ (λ i. (foreign_passed (is_own e.0.seq) (flat_map (numbered d) here) before_foreign).0 i
       ++ ((own_passed (is_own e.0.seq) (numbered d e) (all_own e.0.seq (toward d e.1.event.readings))).0 i
       ++ (foreign_passed (is_own e.0.seq) (flat_map (numbered d) there) behind_foreign).0 i))
-      ∙ append-none (numbered d e)
-    where
-      append-none : (xs : List Numbered) → xs ++ [] ≡ xs
-      append-none [] = refl
-      append-none (x ∷ xs) = ap (λ ys. x ∷ ys) (append-none xs)
+      ∙ append-nil (numbered d e)
 
   pub runs_by_sequence : runs_of Sequence d e.0 more ≤ 1
   runs_by_sequence =
@@ -151,21 +117,7 @@ module _ (d : Direction) (es more : List Entry) (e : Entry) (one : IsOneMore es 
     pub own_numbered : length (filter (is_own e.0.seq) (numbered_by order d e.0.tx more)) ≡ length (toward d e.1.event.readings)
     own_numbered =
         ap length (sym (order-passed (λ n. n.1.moment) order (is_own e.0.seq) (flat_map (numbered d) (live_of e.0.tx more))) ∙ ap (in_order order (λ n. n.1.moment)) its_own)
-        ∙ order-length order (numbered d e) ∙ map-length e.0.seq (toward d e.1.event.readings)
-      where
-        ones : (ns : List Numbered) → sum_by (λ n. 1) ns ≡ length ns
-        ones [] = refl
-        ones (n ∷ ns) = let rest = ones ns in let whole = sum_by-one n ns in omega (arith, rest, whole)
-          where
-            sum_by-one : (n : Numbered) (ns : List Numbered) → sum_by (λ n. 1) (n ∷ ns) ≡ 1 + sum_by (λ n. 1) ns
-            sum_by-one n ns = sum_by-append (λ n. 1) (n ∷ []) ns
-
-        order-length : (order : Order) (ns : List Numbered) → length (in_order order (λ n. n.1.moment) ns) ≡ length ns
-        order-length order ns = sym (ones (in_order order (λ n. n.1.moment) ns)) ∙ order-sum (λ n. n.1.moment) order (λ n. 1) ns ∙ ones ns
-
-        map-length : (n : ℕ) (rs : List MeterReading) → length {A = Numbered} (map (λ r. (n, r)) rs) ≡ length rs
-        map-length n [] = refl
-        map-length n (r ∷ rs) = let rest = map-length n rs in omega (arith, rest)
+        ∙ order-length (λ n. n.1.moment) order (numbered d e) ∙ length-map (toward d e.1.event.readings) (λ r. (e.0.seq, r))
 
     pub few_come_and_go : length (pairs_across order d e.0 more) + length (pairs_with order d e.0 more) ≤ length (toward d e.1.event.readings) + 2 * runs_of order d e.0 more
     few_come_and_go =
@@ -174,13 +126,9 @@ module _ (d : Direction) (es more : List Entry) (e : Entry) (one : IsOneMore es 
           arith,
           few,
           own_numbered,
-          bare-length (across_runs (is_own e.0.seq) (numbered_by order d e.0.tx more)),
-          bare-length (filter (λ p. is_own e.0.seq p.0 || is_own e.0.seq p.1) (in_pairs (numbered_by order d e.0.tx more))),
+          length-map (across_runs (is_own e.0.seq) (numbered_by order d e.0.tx more)) bare,
+          length-map (filter (λ p. is_own e.0.seq p.0 || is_own e.0.seq p.1) (in_pairs (numbered_by order d e.0.tx more))) bare,
         )
-      where
-        bare-length : (ps : List (Numbered × Numbered)) → length (map bare ps) ≡ length ps
-        bare-length [] = refl
-        bare-length (p ∷ ps) = let rest = bare-length ps in omega (arith, rest)
 
     module _ (f : Pair → ℕ) where
       pub transaction_moves : sum_by f (pairs_by order d e.0.tx more) + sum_by f (pairs_across order d e.0 more) ≡ sum_by f (pairs_by order d e.0.tx es) + sum_by f (pairs_with order d e.0 more)

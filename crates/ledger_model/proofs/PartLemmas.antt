@@ -1,5 +1,5 @@
 -- The parts of a difference add up to it, by each rule.
-use Rattle.std.{proofs.Common.{◌≡◌, ℕ, zero, suc, ◌+◌, ◌*◌, ◌-◌, ◌/◌, ◌≤◌, ◌<◌, Bool, true, false, cond, List, [], ◌∷◌, refl, ap, subst, ◌∙◌, ◌⊎◌, inl, inr, ⊎_elim, arith}, specs.Prelude.{sum_by, nat_le, nat_lt}, proofs.Math.Nat.{div-le_of_le-mul, div-mul-le_self, div-zero, mul-le-mul_left, zero-div}, proofs.lemmas.Bool.{ltb-true, and_parts}, proofs.lemmas.List.Sums.sum_by-cons, proofs.lemmas.Nat.le-div}
+use Rattle.std.{proofs.Common.{◌≡◌, ℕ, zero, suc, ◌+◌, ◌*◌, ◌-◌, ◌/◌, ◌≤◌, ◌<◌, Bool, true, false, cond, List, [], ◌∷◌, refl, ap, subst, ◌∙◌, ◌⊎◌, inl, inr, ⊎_elim, arith}, specs.Prelude.{sum_by, nat_le, nat_lt}, proofs.Math.Nat.{div-le_of_le-mul, div-mul-le_self, div-zero, mul-le-mul_left, zero-div}, proofs.lemmas.Bool.{cases_lt, ltb-true, and_parts}, proofs.lemmas.List.Sums.sum_by-cons, proofs.lemmas.Nat.le-div}
 use Rattle.energy_flow.specs.Flow.{difference_of}
 use Rattle.ledger_model.{specs.Energy.{Pair, change_of, difference, energy_over, parts_of, parts_over}, specs.Parts.{Change, Part, energy_of_parts, is_shared, level_at, longest_share, parts_by, share, shares, shares_from, whole}, specs.Periods.Periods, specs.Quarter.quarter_at, specs.declared.settle.Settle.Settle, specs.declared.settle.Settle.TheVariants.{Later, Closing, Even}, proofs.SumLemmas.{sum_by-flat_map, sum_by-same}}
 
@@ -115,14 +115,11 @@ module _ (c : Change) where
         let at_last : gone (last * length) ≤ long = omega (arith, div-mul-le_self ((c.until - 1) / 1_000_000_000) length, seconds) in
         let ends : gone ((first + (last - first)) * length) ≤ long = subst (λ k. gone (k * length) ≤ long) all at_last in
         ⊎_elim
-        (λ (rises : c.earlier ≤ c.later). rising_add rises first c.earlier (last - first) rises (omega (arith, level_up ((first + 1) * length) rises)) ends)
+        (λ (less : c.earlier < c.later).
+        let rises : c.earlier ≤ c.later = omega (arith, less) in
+        rising_add rises first c.earlier (last - first) rises (omega (arith, level_up ((first + 1) * length) rises)) ends)
         (λ (falls : c.later ≤ c.earlier). falling_add falls first c.earlier (last - first) falls (omega (arith, level_down ((first + 1) * length) falls)) ends)
-        (either c.earlier c.later)
-      where
-        either : (a b : ℕ) → (a ≤ b) ⊎ (b ≤ a)
-        either zero b = inl (omega arith)
-        either (suc a) zero = inr (omega arith)
-        either (suc a) (suc b) = ⊎_elim (λ (le : a ≤ b). inl (omega (arith, le))) (λ (le : b ≤ a). inr (omega (arith, le))) (either a b)
+        (cases_lt c.earlier c.later)
 
     even_adds : (b : Bool) → is_shared c ≡ b → AddUp (cond b (shares length c) (whole Even length c)) c.earlier c.later
     even_adds true is = shares_add (ltb-true c.since c.until (and_parts (nat_lt c.since c.until) (nat_le (c.until - c.since) longest_share) is).0)

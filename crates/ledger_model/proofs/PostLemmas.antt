@@ -1,151 +1,92 @@
 -- What one post more changes, and that the totals are the sums over the rows.
-use Rattle.std.{proofs.Common.{◌≡◌, ◌≢◌, ℕ, zero, suc, ◌<◌, ◌≤◌, ◌+◌, ◌*◌, true, false, cond, ◌||◌, List, [], ◌∷◌, ◌++◌, refl, ap, sym, ◌∙◌, subst, ⊎_elim, arith, map, eqb}, specs.Prelude.{sum_by, All}, specs.List.range_with_len, proofs.lemmas.Bool.{eq-eqb, ne_eqb, eqb-false, cases_eq, cases_Bool, or_parts, or_left, or_right}, proofs.lemmas.List.Elements.{All-head, All-tail}}
-use Rattle.ledger_model.{specs.declared.figures.Figures.Figures, specs.Figures.no_figures, specs.Board.{plus_figures, sum_of_figures}, specs.Posts.{Post, has_post, row_after, totals_after}, proofs.SumLemmas.{sum_by-same, sum_by-none, sum_by-plus, sum_by-map, sum_by-times, AreOnce, times, times-here, times-other}, proofs.FigureLemmas.{figure_of_sum, same_figures}}
+use Rattle.std.{proofs.Common.{◌≡◌, ◌≢◌, ℕ, zero, suc, ◌<◌, ◌≤◌, ◌+◌, ◌*◌, Bool, true, false, cond, not, ◌||◌, List, [], ◌∷◌, ◌++◌, refl, ap, sym, ◌∙◌, ⊎_elim, arith, map, eqb}, specs.Prelude.{sum_by, All}, specs.List.{range_with_len, slice_index_or}, proofs.lemmas.Bool.{eq-eqb, ne_eqb, eqb-true, cases_eq, or_parts, or_right}, proofs.lemmas.List.Elements.{All-head, All-tail}, proofs.lemmas.List.Folds.list_any-append}
+use Rattle.ledger_model.{specs.declared.figures.Figures.Figures, specs.Figures.no_figures, specs.Board.{plus_figures, sum_of_figures}, specs.Posts.{Post, has_post, row_after, totals_after}, proofs.SumLemmas.{sum_by-same, sum_by-none, sum_by-plus, sum_by-map, sum_by-count, times, times-here, times-other, taken}, proofs.FigureLemmas.{figure_of_sum, same_figures}}
 
--- the test of has_post at a list with one post in front
-has-here : (row : ℕ) (p : Post) (ps : List Post) → p.0 ≡ row → has_post row (p ∷ ps) ≡ true
-has-here row p ps e = or_left (eqb p.0 row) (has_post row ps) (eq-eqb p.0 row e)
+or_false : (b : Bool) → (b || false) ≡ b
+or_false true = refl
+or_false false = refl
 
-has-other : (row : ℕ) (p : Post) (ps : List Post) → p.0 ≢ row → has_post row (p ∷ ps) ≡ has_post row ps
-has-other row p ps apart = rw (ne_eqb p.0 row apart)
-
-has-push_same : (row : ℕ) (f : Figures) (ps : List Post) → has_post row (ps ++ (row, f) ∷ []) ≡ true
-has-push_same row f [] = has-here row (row, f) [] refl
-has-push_same row f (p ∷ ps) = or_right (eqb p.0 row) (has_post row (ps ++ (row, f) ∷ [])) (has-push_same row f ps)
-
-has-push_other : (row other : ℕ) (f : Figures) (ps : List Post) → row ≢ other → has_post other (ps ++ (row, f) ∷ []) ≡ has_post other ps
-has-push_other row other f [] apart = has-other other (row, f) [] apart
-has-push_other row other f (p ∷ ps) apart = ap (λ b. eqb p.0 other || b) (has-push_other row other f ps apart)
-
--- row_after at a list with one post in front
-row-later : (row : ℕ) (p : Post) (ps : List Post) → has_post row ps ≡ true → row_after row (p ∷ ps) ≡ row_after row ps
-row-later row p ps h = rw h
-
-row-here : (row : ℕ) (p : Post) (ps : List Post) → has_post row ps ≡ false → p.0 ≡ row → row_after row (p ∷ ps) ≡ p.1
-row-here row p ps h e = rw (h, eq-eqb p.0 row e)
-
-row-nothing : (row : ℕ) (p : Post) (ps : List Post) → has_post row ps ≡ false → p.0 ≢ row → row_after row (p ∷ ps) ≡ no_figures
-row-nothing row p ps h apart = rw (h, ne_eqb p.0 row apart)
+-- a post more is there for its row
+has-push : (row other : ℕ) (f : Figures) (ps : List Post) → has_post other (ps ++ (row, f) ∷ []) ≡ (has_post other ps || eqb row other)
+has-push row other f ps = list_any-append (λ (p : Post). eqb p.0 other) ps ((row, f) ∷ []) ∙ ap (λ b. has_post other ps || b) (or_false (eqb row other))
 
 -- a row that nothing was posted for
-pub row-none : (row : ℕ) (ps : List Post) → has_post row ps ≡ false → row_after row ps ≡ no_figures
+row-none : (row : ℕ) (ps : List Post) → has_post row ps ≡ false → row_after row ps ≡ no_figures
 row-none row [] h = refl
-row-none row (p ∷ ps) h =
-    let parts = or_parts (eqb p.0 row) (has_post row ps) h in
-    row-nothing row p ps parts.1 (eqb-false p.0 row parts.0)
-
-row-other : (row : ℕ) (p : Post) (ps : List Post) → p.0 ≢ row → row_after row (p ∷ ps) ≡ row_after row ps
-row-other row p ps apart = ⊎_elim
-    (λ (h : has_post row ps ≡ true). row-later row p ps h)
-    (λ (h : has_post row ps ≡ false). row-nothing row p ps h apart ∙ sym (row-none row ps h))
-    (cases_Bool (has_post row ps))
+row-none row (p ∷ ps) h = let parts = or_parts (eqb p.0 row) (has_post row ps) h in rw (parts.1, parts.0)
 
 pub row-push_same : (row : ℕ) (f : Figures) (ps : List Post) → row_after row (ps ++ (row, f) ∷ []) ≡ f
-row-push_same row f [] = row-here row (row, f) [] refl refl
-row-push_same row f (p ∷ ps) = row-later row p (ps ++ (row, f) ∷ []) (has-push_same row f ps) ∙ row-push_same row f ps
+row-push_same row f [] = rw (eq-eqb row row refl)
+row-push_same row f (p ∷ ps) =
+    ap (λ b. cond b (row_after row (ps ++ (row, f) ∷ [])) (cond (eqb p.0 row) p.1 no_figures)) (has-push row row f ps ∙ or_right (has_post row ps) (eqb row row) (eq-eqb row row refl))
+    ∙ row-push_same row f ps
 
 pub row-push_other : (row other : ℕ) (f : Figures) (ps : List Post) → row ≢ other → row_after other (ps ++ (row, f) ∷ []) ≡ row_after other ps
-row-push_other row other f [] apart = row-nothing other (row, f) [] refl apart
+row-push_other row other f [] apart = rw (ne_eqb row other apart)
 row-push_other row other f (p ∷ ps) apart =
-    ap (λ b. cond b (row_after other (ps ++ (row, f) ∷ [])) (cond (eqb p.0 other) p.1 no_figures)) (has-push_other row other f ps apart)
+    ap (λ b. cond b (row_after other (ps ++ (row, f) ∷ [])) (cond (eqb p.0 other) p.1 no_figures))
+    (has-push row other f ps ∙ ap (λ b. has_post other ps || b) (ne_eqb row other apart) ∙ or_false (has_post other ps))
     ∙ ap (λ r. cond (has_post other ps) r (cond (eqb p.0 other) p.1 no_figures)) (row-push_other row other f ps apart)
-
-totals-later : (p : Post) (ps : List Post) → has_post p.0 ps ≡ true → totals_after (p ∷ ps) ≡ totals_after ps
-totals-later p ps h = rw h
-
-totals-here : (p : Post) (ps : List Post) → has_post p.0 ps ≡ false → totals_after (p ∷ ps) ≡ plus_figures p.1 (totals_after ps)
-totals-here p ps h = rw h
-
--- a post that isn't its row's last changes no row
-row-known : (p : Post) (ps : List Post) → has_post p.0 ps ≡ true → (row : ℕ) → row_after row (p ∷ ps) ≡ row_after row ps
-row-known p ps h row = ⊎_elim
-    (λ (e : p.0 ≡ row). row-later row p ps (subst (λ r. has_post r ps ≡ true) e h))
-    (λ (apart : p.0 ≢ row). row-other row p ps apart)
-    (cases_eq p.0 row)
 
 -- one figure of what one post more leaves
 module _ (figure : Figures → ℕ) (none : figure no_figures ≡ 0) (both : (a b : Figures) → figure (plus_figures a b) ≡ figure a + figure b) where
-  figure-here : (p : Post) (ps : List Post) → has_post p.0 ps ≡ false → figure (totals_after (p ∷ ps)) ≡ figure p.1 + figure (totals_after ps)
-  figure-here p ps h = ap figure (totals-here p ps h) ∙ both p.1 (totals_after ps)
+  -- what a post counts: its figure, if no later post is for its row
+  abbrev counts : Post → List Post → ℕ
+  counts p ps = taken (not (has_post p.0 ps)) (figure p.1)
 
-  totals-push_same : (row : ℕ) (f : Figures) (p : Post) (ps : List Post) → p.0 ≡ row → has_post row ps ≡ false
-      → figure (totals_after (ps ++ (row, f) ∷ [])) + figure (row_after row ps) ≡ figure (totals_after ps) + figure f
-      → figure (totals_after (p ∷ ps ++ (row, f) ∷ [])) + figure (row_after row (p ∷ ps)) ≡ figure (totals_after (p ∷ ps)) + figure f
-  totals-push_same row f p ps e h rest =
-      let after : figure (totals_after (p ∷ ps ++ (row, f) ∷ [])) ≡ figure (totals_after (ps ++ (row, f) ∷ [])) =
-      ap figure (totals-later p (ps ++ (row, f) ∷ []) (subst (λ r. has_post r (ps ++ (row, f) ∷ []) ≡ true) (sym e) (has-push_same row f ps))) in
-      let before : figure (totals_after (p ∷ ps)) ≡ figure p.1 + figure (totals_after ps) = figure-here p ps (subst (λ r. has_post r ps ≡ false) (sym e) h) in
-      let old : figure (row_after row (p ∷ ps)) ≡ figure p.1 = ap figure (row-here row p ps h e) in
-      let nothing : figure (row_after row ps) ≡ 0 = ap figure (row-none row ps h) ∙ none in
-      omega (arith, after, before, old, nothing, rest)
+  totals-cons : (p : Post) (ps : List Post) → figure (totals_after (p ∷ ps)) ≡ counts p ps + figure (totals_after ps)
+  totals-cons p ps = by_case (has_post p.0 ps)
+    where
+      by_case : (b : Bool) → figure (cond b (totals_after ps) (plus_figures p.1 (totals_after ps))) ≡ taken (not b) (figure p.1) + figure (totals_after ps)
+      by_case true = omega arith
+      by_case false = both p.1 (totals_after ps)
 
-  totals-push_later : (row : ℕ) (f : Figures) (p : Post) (ps : List Post) → has_post p.0 ps ≡ true → has_post p.0 (ps ++ (row, f) ∷ []) ≡ true
-      → row_after row (p ∷ ps) ≡ row_after row ps
-      → figure (totals_after (ps ++ (row, f) ∷ [])) + figure (row_after row ps) ≡ figure (totals_after ps) + figure f
-      → figure (totals_after (p ∷ ps ++ (row, f) ∷ [])) + figure (row_after row (p ∷ ps)) ≡ figure (totals_after (p ∷ ps)) + figure f
-  totals-push_later row f p ps h h' same rest =
-      let after : figure (totals_after (p ∷ ps ++ (row, f) ∷ [])) ≡ figure (totals_after (ps ++ (row, f) ∷ [])) = ap figure (totals-later p (ps ++ (row, f) ∷ []) h') in
-      let before : figure (totals_after (p ∷ ps)) ≡ figure (totals_after ps) = ap figure (totals-later p ps h) in
-      let old : figure (row_after row (p ∷ ps)) ≡ figure (row_after row ps) = ap figure same in
-      omega (arith, after, before, old, rest)
-
-  totals-push_other : (row : ℕ) (f : Figures) (p : Post) (ps : List Post) → p.0 ≢ row
-      → figure (totals_after (ps ++ (row, f) ∷ [])) + figure (row_after row ps) ≡ figure (totals_after ps) + figure f
-      → figure (totals_after (p ∷ ps ++ (row, f) ∷ [])) + figure (row_after row (p ∷ ps)) ≡ figure (totals_after (p ∷ ps)) + figure f
-  totals-push_other row f p ps apart rest =
-      let has : has_post p.0 (ps ++ (row, f) ∷ []) ≡ has_post p.0 ps = has-push_other row p.0 f ps (λ e. apart (sym e)) in
-      ⊎_elim
-      (λ (h : has_post p.0 ps ≡ true). totals-push_later row f p ps h (has ∙ h) (row-other row p ps apart) rest)
-      (λ (h : has_post p.0 ps ≡ false).
-      let after : figure (totals_after (p ∷ ps ++ (row, f) ∷ [])) ≡ figure p.1 + figure (totals_after (ps ++ (row, f) ∷ [])) = figure-here p (ps ++ (row, f) ∷ []) (has ∙ h) in
-      let before : figure (totals_after (p ∷ ps)) ≡ figure p.1 + figure (totals_after ps) = figure-here p ps h in
-      let old : figure (row_after row (p ∷ ps)) ≡ figure (row_after row ps) = ap figure (row-other row p ps apart) in
-      omega (arith, after, before, old, rest))
-      (cases_Bool (has_post p.0 ps))
+  row-cons : (row : ℕ) (p : Post) (ps : List Post) → figure (row_after row (p ∷ ps)) ≡ taken (eqb p.0 row) (counts p ps) + figure (row_after row ps)
+  row-cons row p ps = by_case (has_post row ps) (has_post p.0 ps) (eqb p.0 row) (λ e. ap (λ r. has_post r ps) (eqb-true p.0 row e)) (λ h. ap figure (row-none row ps h) ∙ none)
+    where
+      by_case : (b c e : Bool) → (e ≡ true → c ≡ b) → (b ≡ false → figure (row_after row ps) ≡ 0)
+          → figure (cond b (row_after row ps) (cond e p.1 no_figures)) ≡ taken e (taken (not c) (figure p.1)) + figure (row_after row ps)
+      by_case true c true same nothing = omega (arith, ap (λ b. taken (not b) (figure p.1)) (same refl))
+      by_case true c false same nothing = omega arith
+      by_case false c true same nothing = omega (arith, ap (λ b. taken (not b) (figure p.1)) (same refl), nothing refl)
+      by_case false c false same nothing = omega (arith, none, nothing refl)
 
   figure-push : (row : ℕ) (f : Figures) (ps : List Post) → figure (totals_after (ps ++ (row, f) ∷ [])) + figure (row_after row ps) ≡ figure (totals_after ps) + figure f
-  figure-push row f [] = let only : figure (totals_after ((row, f) ∷ [])) ≡ figure f + figure no_figures = figure-here (row, f) [] refl in omega (arith, only)
+  figure-push row f [] = omega (arith, totals-cons (row, f) [])
   figure-push row f (p ∷ ps) =
-      let rest : figure (totals_after (ps ++ (row, f) ∷ [])) + figure (row_after row ps) ≡ figure (totals_after ps) + figure f = figure-push row f ps in
-      ⊎_elim
-      (λ (e : p.0 ≡ row). ⊎_elim
-      (λ (h : has_post row ps ≡ true). totals-push_later row f p ps (subst (λ r. has_post r ps ≡ true) (sym e) h)
-      (subst (λ r. has_post r (ps ++ (row, f) ∷ []) ≡ true) (sym e) (has-push_same row f ps)) (row-later row p ps h) rest)
-      (λ (h : has_post row ps ≡ false). totals-push_same row f p ps e h rest)
-      (cases_Bool (has_post row ps)))
-      (λ (apart : p.0 ≢ row). totals-push_other row f p ps apart rest)
-      (cases_eq p.0 row)
+      let last = ap (λ b. taken (not b) (figure p.1)) (has-push row p.0 f ps ∙ ap (λ b. has_post p.0 ps || b) (turned row p.0)) in
+      omega (
+        arith,
+        figure-push row f ps,
+        totals-cons p (ps ++ (row, f) ∷ []),
+        totals-cons p ps,
+        row-cons row p ps,
+        last,
+        at_one (has_post p.0 ps) (eqb p.0 row) (figure p.1),
+      )
+    where
+      turned : (m n : ℕ) → eqb m n ≡ eqb n m
+      turned m n = ⊎_elim (λ (e : m ≡ n). (λ i. eqb (e i) (sym e i))) (λ apart. ne_eqb m n apart ∙ sym (ne_eqb n m (λ e. apart (sym e)))) (cases_eq m n)
 
-  -- what a post adds to a row: its figures, where it is the row's last
-  figure-row : (p : Post) (ps : List Post) → has_post p.0 ps ≡ false → (row : ℕ) → figure (row_after row (p ∷ ps)) ≡ cond (eqb p.0 row) (figure p.1) 0 + figure (row_after row ps)
-  figure-row p ps h row = ⊎_elim
-      (λ (e : p.0 ≡ row).
-      let free : has_post row ps ≡ false = subst (λ r. has_post r ps ≡ false) e h in
-      let here : figure (row_after row (p ∷ ps)) ≡ figure p.1 = ap figure (row-here row p ps free e) in
-      let nothing : figure (row_after row ps) ≡ 0 = ap figure (row-none row ps free) ∙ none in
-      let one : cond (eqb p.0 row) (figure p.1) 0 ≡ figure p.1 = ap (λ b. cond b (figure p.1) 0) (eq-eqb p.0 row e) in
-      omega (arith, here, nothing, one))
-      (λ (apart : p.0 ≢ row).
-      let same : figure (row_after row (p ∷ ps)) ≡ figure (row_after row ps) = ap figure (row-other row p ps apart) in
-      let one : cond (eqb p.0 row) (figure p.1) 0 ≡ 0 = ap (λ b. cond b (figure p.1) 0) (ne_eqb p.0 row apart) in
-      omega (arith, same, one))
-      (cases_eq p.0 row)
+      at_one : (h e : Bool) (n : ℕ) → taken (not (h || e)) n + taken e (taken (not h) n) ≡ taken (not h) n
+      at_one true true n = omega arith
+      at_one true false n = omega arith
+      at_one false true n = omega arith
+      at_one false false n = omega arith
 
   -- a figure of the totals is the sum of that figure over rows in which each posted row occurs once
-  figure-rows : (rows : List ℕ) (ps : List Post) → AreOnce (λ p. p.0) rows ps → figure (totals_after ps) ≡ sum_by (λ row. figure (row_after row ps)) rows
+  figure-rows : (rows : List ℕ) (ps : List Post) → All (λ p. times p.0 rows ≡ 1) ps → figure (totals_after ps) ≡ sum_by (λ row. figure (row_after row ps)) rows
   figure-rows rows [] once = none ∙ sym (sum_by-same (λ row. figure no_figures) (λ row. 0) (λ row. none) rows ∙ sum_by-none rows)
   figure-rows rows (p ∷ ps) once =
-      let rest : figure (totals_after ps) ≡ sum_by (λ row. figure (row_after row ps)) rows = figure-rows rows ps once.1 in
-      ⊎_elim
-      (λ (h : has_post p.0 ps ≡ true). ap figure (totals-later p ps h) ∙ rest
-      ∙ sym (sum_by-same (λ row. figure (row_after row (p ∷ ps))) (λ row. figure (row_after row ps)) (λ row. ap figure (row-known p ps h row)) rows))
-      (λ (h : has_post p.0 ps ≡ false).
-      let whole : figure (totals_after (p ∷ ps)) ≡ figure p.1 + figure (totals_after ps) = figure-here p ps h in
-      let parted : sum_by (λ row. figure (row_after row (p ∷ ps))) rows ≡ sum_by (λ row. cond (eqb p.0 row) (figure p.1) 0) rows + sum_by (λ row. figure (row_after row ps)) rows
-      = sum_by-same _ _ (figure-row p ps h) rows ∙ sum_by-plus (λ row. cond (eqb p.0 row) (figure p.1) 0) (λ row. figure (row_after row ps)) rows in
-      let one : sum_by (λ row. cond (eqb p.0 row) (figure p.1) 0) rows ≡ 1 * figure p.1 = sum_by-times p.0 (figure p.1) rows ∙ ap (λ n. n * figure p.1) once.0 in
-      omega (arith, whole, parted, one, rest))
-      (cases_Bool (has_post p.0 ps))
+      let one : times p.0 rows ≡ 1 = All-head (λ (q : Post). times q.0 rows ≡ 1) p ps once in
+      omega (
+        arith,
+        totals-cons p ps,
+        figure-rows rows ps (All-tail (λ (q : Post). times q.0 rows ≡ 1) p ps once),
+        sum_by-same _ _ (λ row. row-cons row p ps) rows,
+        sum_by-plus (λ row. taken (eqb p.0 row) (counts p ps)) (λ row. figure (row_after row ps)) rows,
+        sum_by-count (eqb p.0) (counts p ps) rows ∙ ap (λ n. n * counts p ps) one,
+      )
 
 -- the numbers of a range occur once in it
 times-before : (q a n : ℕ) → q < a → times q (range_with_len a n) ≡ 0
@@ -156,18 +97,11 @@ times-range : (q a n : ℕ) → a ≤ q → q < a + n → times q (range_with_le
 times-range q a zero low high = absurd (omega arith)
 times-range q a (suc n) low high = ⊎_elim
     (λ (e : q ≡ a). times-here q a (range_with_len (a + 1) n) e ∙ ap (λ k. 1 + k) (times-before q (a + 1) n (omega arith)))
-    (λ (apart : q ≢ a). times-other q a (range_with_len (a + 1) n) apart ∙ times-range q (a + 1) n (let less : a < q = above a q low (λ e. apart (sym e)) in omega arith) (omega arith))
+    (λ (apart : q ≢ a). times-other q a (range_with_len (a + 1) n) apart ∙ times-range q (a + 1) n (omega arith) (omega arith))
     (cases_eq q a)
-  where
-    above : (a q : ℕ) → a ≤ q → (a ≡ q → ⊥) → a < q
-    above a q low apart = omega arith
 
-once_below : (n : ℕ) (ps : List Post) → All (λ p. p.0 < n) ps → AreOnce (λ p. p.0) (range_with_len 0 n) ps
-once_below n [] below = tt
-once_below n (p ∷ ps) below = (
-  times-range p.0 0 n (omega arith) (let less : p.0 < n = All-head (λ (q : Post). q.0 < n) p ps below in omega arith),
-  once_below n ps (All-tail (λ (q : Post). q.0 < n) p ps below),
-)
+once_below : (n : ℕ) (ps : List Post) → All (λ p. p.0 < n) ps → All (λ p. times p.0 (range_with_len 0 n) ≡ 1) ps
+once_below n ps below k d lt = let less : (slice_index_or ps k d).0 < n = below k d lt in times-range _ 0 n (omega arith) (omega arith)
 
 pub totals-rows : (n : ℕ) (ps : List Post) → All (λ p. p.0 < n) ps → totals_after ps ≡ sum_of_figures (map (λ row. row_after row ps) (range_with_len 0 n))
 totals-rows n ps below = same_figures _ _ (λ figure none both.

@@ -1,22 +1,17 @@
 -- Readings that repeat others, by moment.
-use Rattle.std.{proofs.Common.{◌≡◌, ℕ, ◌+◌, ◌-◌, ◌<◌, ◌≤◌, ◌⊎◌, inl, inr, Bool, true, false, cond, List, [], ◌∷◌, ◌++◌, Option, Some, None, refl, sym, ap, subst, ◌∙◌, ⊎_elim, bytes_eq, eqb, map, arith, append_assoc, ◌&&◌}, specs.Prelude.{nat_le, nat_lt}, specs.List.{filter, filter_map, cons_option, flat_map, sum_by, AllByRecursion}, proofs.lemmas.Bool.{cases_Bool, cases_eq, eq-eqb, ltb-true, ne_eqb}, proofs.lemmas.Grind.flat_map-append, proofs.lemmas.List.Elements.{filter-append, recursion_from_All}, proofs.lemmas.List.Sums.sum_by-cons}
-use Rattle.ledger_model.{specs.Periods.Periods, specs.declared.order.Order.TheVariants.Moment, specs.declared.reading.Direction.Direction, specs.declared.reading.Direction.TheVariants.{Import, Export}, specs.Content.{Entry, distinct, live, transactions_of}, specs.Deltas.{across, first_reading, last_reading, pairs_between}, specs.Energy.{Pair, energy_by, energy_in_by, energy_of_by, energy_over, energy_within, followed, pairs_by, parts_of, parts_over, readings_by, readings_of}, specs.Event.{MeterReading, same_direction, toward}, specs.Evse.{energy_at_by, evse_of, first_or_zero, transactions_at}, specs.InTime.{AreInTime, in_time}, specs.Key.KeyName, specs.Parts.{Part, longest_share, parts_by, shares, whole}, specs.Settling.settled_by, specs.declared.settle.Settle.Settle, specs.declared.settle.Settle.TheVariants.{Later, Closing, Even}, specs.ReadingOrder.{taken_when, IsOneReadingMore, IsRepeat}, proofs.EnergyLemmas.same_energy, proofs.InTimeLemmas.{AreFrom, AreUpTo, IsPutIn, in_time-rises, of_moment, one_put_in, rest_from, tail_rises}, proofs.OneMore.{passed_sum, taken}, proofs.Splices.{followed_sums, last_is}, proofs.SumLemmas.{sum_by-flat_map, sum_by-same}, proofs.SumsByTransaction.one_text}
+use Rattle.std.{proofs.Common.{◌≡◌, ℕ, ◌+◌, ◌-◌, ◌<◌, ◌≤◌, ◌⊎◌, inl, inr, Bool, true, false, cond, List, [], ◌∷◌, ◌++◌, Option, Some, None, refl, sym, ap, subst, ◌∙◌, ⊎_elim, bytes_eq, eqb, arith, append_assoc, ◌&&◌}, specs.Prelude.{nat_le, nat_lt}, specs.List.{filter, filter_map, flat_map, sum_by, AllByRecursion}, proofs.lemmas.Bool.{cases_Bool, cases_eq, eq-eqb, ltb-true, ne_eqb}, proofs.lemmas.Grind.flat_map-append, proofs.lemmas.List.map-append, proofs.lemmas.List.Elements.{filter-append, filter_map-append, recursion_from_All}, proofs.lemmas.List.Sums.sum_by-cons}
+use Rattle.ledger_model.{specs.Periods.Periods, specs.declared.order.Order.TheVariants.Moment, specs.declared.reading.Direction.Direction, specs.declared.reading.Direction.TheVariants.{Import, Export}, specs.Content.{Entry, distinct, live, transactions_of}, specs.Deltas.{across, first_reading, last_reading, pairs_between}, specs.Energy.{Pair, energy_by, energy_in_by, energy_of_by, energy_over, energy_within, followed, pairs_by, parts_of, parts_over, readings_by, readings_of}, specs.Event.{MeterReading, same_direction, toward}, specs.Evse.{energy_at_by, evse_of, first_or_zero, transactions_at}, specs.InTime.{AreInTime, in_time}, specs.Key.KeyName, specs.Parts.{Part, longest_share, parts_by, shares, whole}, specs.Settling.settled_by, specs.declared.settle.Settle.Settle, specs.declared.settle.Settle.TheVariants.{Later, Closing, Even}, specs.ReadingOrder.{taken_when, IsOneReadingMore, IsRepeat}, proofs.EnergyLemmas.same_energy, proofs.InTimeLemmas.{AreFrom, AreUpTo, IsPutIn, in_time-rises, of_moment, none_earlier, one_put_in, rest_from, tail_rises}, proofs.OneMore.{passed_sum, taken}, proofs.Splices.{followed_sums, last_is}, proofs.SumLemmas.{sum_by-flat_map, sum_by-same}, proofs.SumsByTransaction.one_text, proofs.Transactions.ids}
 use Rattle.energy_flow.specs.Flow.{difference_of}
 
 none_or_some : {X : Type 0} (xs : List X) → (xs ≡ []) ⊎ (xs ≡ [] → ⊥)
 none_or_some [] = inl refl
 none_or_some (x ∷ xs) = inr (λ e. cc)
 
--- The last of readings in time has the last moment if some have it; and what is true of all is true of it.
-record IsLast (P : MeterReading → Type 0) (m : ℕ) (rs : List MeterReading) : Type 0 where
+-- The reading at an end of others in time has their last or first moment if some have it; and what is true of all is true
+-- of it.
+record IsAt (P : MeterReading → Type 0) (m : ℕ) (o : Option MeterReading) : Type 0 where
   s : MeterReading
-  is : last_reading rs ≡ Some s
-  moment : s.moment ≡ m
-  so : P s
-
-record IsFirst (P : MeterReading → Type 0) (m : ℕ) (rs : List MeterReading) : Type 0 where
-  s : MeterReading
-  is : first_reading rs ≡ Some s
+  is : o ≡ Some s
   moment : s.moment ≡ m
   so : P s
 
@@ -31,49 +26,39 @@ elsewhere : (m : ℕ) (r : MeterReading) (rs : List MeterReading) → (r.moment 
 elsewhere m r rs apart = ap (λ b. cond b (r ∷ of_moment taken_when m rs) (of_moment taken_when m rs)) (ne_eqb r.moment m apart)
 
 module _ (P : MeterReading → Type 0) (m : ℕ) where
-  last_of : (r : MeterReading) (rs : List MeterReading) → AreInTime taken_when (r ∷ rs) → AreUpTo taken_when m (r ∷ rs)
-      → (of_moment taken_when m (r ∷ rs) ≡ [] → ⊥) → AllByRecursion P (r ∷ rs) → IsLast P m (r ∷ rs)
-  last_of r [] up upto some all = ⊎_elim
+  last_of : (rs : List MeterReading) → AreInTime taken_when rs → AreUpTo taken_when m rs → (of_moment taken_when m rs ≡ [] → ⊥) → AllByRecursion P rs → IsAt P m (last_reading rs)
+  last_of [] up upto some all = absurd (some refl)
+  last_of (r ∷ []) up upto some all = ⊎_elim
       (λ (e : r.moment ≡ m). record { s = r; is = refl; moment = e; so = all.0 })
       (λ (apart : r.moment ≡ m → ⊥). absurd (some (elsewhere m r [] apart)))
       (cases_eq r.moment m)
-  last_of r (t ∷ ts) up upto some all =
-      let rest : IsLast P m (t ∷ ts) = last_of t ts up.1 upto.1
+  last_of (r ∷ t ∷ ts) up upto some all =
+      let rest : IsAt P m (last_reading (t ∷ ts)) = last_of (t ∷ ts) up.1 upto.1
       (⊎_elim
       (λ (e : r.moment ≡ m). here m t ts (let a : r.moment ≤ t.moment = up.0 in let b : t.moment ≤ m = upto.1.0 in omega (arith, a, b, e)))
       (λ (apart : r.moment ≡ m → ⊥). λ none. some (elsewhere m r (t ∷ ts) apart ∙ none))
       (cases_eq r.moment m)) all.1 in
-      record { s = rest.s; is = last_behind r t ts ∙ rest.is; moment = rest.moment; so = rest.so }
-    where
-      last_behind : (r t : MeterReading) (ts : List MeterReading) → last_reading (r ∷ t ∷ ts) ≡ last_reading (t ∷ ts)
-      last_behind r t ts = sym (last_is (r ∷ t ∷ ts)) ∙ last_is (t ∷ ts)
+      record { s = rest.s; is = sym (last_is (r ∷ t ∷ ts)) ∙ last_is (t ∷ ts) ∙ rest.is; moment = rest.moment; so = rest.so }
 
-  later_none : (n : ℕ) (rs : List MeterReading) → m < n → AreFrom taken_when n rs → of_moment taken_when m rs ≡ []
-  later_none n [] lt from = refl
-  later_none n (r ∷ rs) lt from = elsewhere m r rs (λ e. absurd (let a : n ≤ r.moment = from.0 in omega (arith, a, lt, e))) ∙ later_none n rs lt from.1
-
-  first_of : (rs : List MeterReading) → AreInTime taken_when rs → AreFrom taken_when m rs → (of_moment taken_when m rs ≡ [] → ⊥) → AllByRecursion P rs → IsFirst P m rs
+  first_of : (rs : List MeterReading) → AreInTime taken_when rs → AreFrom taken_when m rs → (of_moment taken_when m rs ≡ [] → ⊥) → AllByRecursion P rs → IsAt P m (first_reading rs)
   first_of [] up from some all = absurd (some refl)
   first_of (r ∷ rs) up from some all = ⊎_elim
       (λ (e : r.moment ≡ m). record { s = r; is = refl; moment = e; so = all.0 })
-      (λ (apart : r.moment ≡ m → ⊥). absurd (some (elsewhere m r rs apart ∙ later_none r.moment rs (let a : m ≤ r.moment = from.0 in lt_from m r.moment a apart) (rest_from taken_when r rs up))))
+      (λ (apart : r.moment ≡ m → ⊥). absurd (some (elsewhere m r rs apart
+      ∙ none_earlier taken_when m r.moment rs (let a : m ≤ r.moment = from.0 in lt_from m r.moment a apart) (rest_from taken_when r rs up))))
       (cases_eq r.moment m)
     where
       lt_from : (m n : ℕ) → m ≤ n → (n ≡ m → ⊥) → m < n
-      lt_from m n le apart = ⊎_elim (λ (e : n ≡ m). absurd (apart e)) (λ (o : n ≡ m → ⊥). omega (arith, le, o)) (cases_eq n m)
+      lt_from m n le apart = omega (arith, le, apart)
 
-front_rises : (xs ys : List MeterReading) → AreInTime taken_when (xs ++ ys) → AreInTime taken_when xs
-front_rises [] ys up = tt
-front_rises (x ∷ []) ys up = tt
-front_rises (x ∷ y ∷ xs) ys up = (up.0, front_rises (y ∷ xs) ys up.1)
+parts_rise : (xs ys : List MeterReading) → AreInTime taken_when (xs ++ ys) → AreInTime taken_when xs × AreInTime taken_when ys
+parts_rise [] ys up = (tt, up)
+parts_rise (x ∷ []) ys up = (tt, tail_rises taken_when x ys up)
+parts_rise (x ∷ y ∷ xs) ys up = let rest = parts_rise (y ∷ xs) ys up.1 in ((up.0, rest.0), rest.1)
 
-back_rises : (xs ys : List MeterReading) → AreInTime taken_when (xs ++ ys) → AreInTime taken_when ys
-back_rises [] ys up = up
-back_rises (x ∷ xs) ys up = back_rises xs ys (tail_rises taken_when x (xs ++ ys) up)
-
-front_all : (P : MeterReading → Type 0) (xs ys : List MeterReading) → AllByRecursion P (xs ++ ys) → AllByRecursion P xs × AllByRecursion P ys
-front_all P [] ys all = (tt, all)
-front_all P (x ∷ xs) ys all = ((all.0, (front_all P xs ys all.1).0), (front_all P xs ys all.1).1)
+parts_all : (P : MeterReading → Type 0) (xs ys : List MeterReading) → AllByRecursion P (xs ++ ys) → AllByRecursion P xs × AllByRecursion P ys
+parts_all P [] ys all = (tt, all)
+parts_all P (x ∷ xs) ys all = let rest = parts_all P xs ys all.1 in ((all.0, rest.0), rest.1)
 
 -- A measure of a pair that depends on its levels and moments, and is nothing where both levels are one and both moments,
 -- too.
@@ -81,27 +66,14 @@ module _ (g : ℕ → ℕ → ℕ → ℕ → ℕ) (none : (v m : ℕ) → g v v
   abbrev measure : Pair → ℕ
   measure p = g p.0.mwh p.1.mwh p.0.moment p.1.moment
 
-  one_pair : (p : Pair) → sum_by measure (p ∷ []) ≡ measure p + 0
-  one_pair p = sum_by-cons measure p []
-
   -- the reading behind one of the same level adds nothing, and the pair behind it is that behind the other
   behind_equal : (s r : MeterReading) (b : Option MeterReading) → s.mwh ≡ r.mwh → s.moment ≡ r.moment → sum_by measure (pairs_between (Some s) (r ∷ []) b) ≡ sum_by measure (across (Some s) b)
-  behind_equal s r None level moment = one_pair (s, r) ∙ (λ i. g (level i) r.mwh (moment i) r.moment + 0) ∙ ap (λ n. n + 0) (none r.mwh r.moment)
-  behind_equal s r (Some t) level moment =
-      let whole = sum_by-cons measure (s, r) ((r, t) ∷ []) in
-      let both : g s.mwh r.mwh s.moment r.moment ≡ g r.mwh r.mwh r.moment r.moment = (λ i. g (level i) r.mwh (moment i) r.moment) in
-      let zero : g s.mwh r.mwh s.moment r.moment ≡ 0 = both ∙ none r.mwh r.moment in
-      let front : g s.mwh t.mwh s.moment t.moment ≡ g r.mwh t.mwh r.moment t.moment = (λ i. g (level i) t.mwh (moment i) t.moment) in let same = sym front in
-      omega (arith, whole, zero, same, one_pair (r, t), one_pair (s, t))
+  behind_equal s r None level moment = rw (level, moment) (omega (arith, none r.mwh r.moment))
+  behind_equal s r (Some t) level moment = rw (level, moment) (omega (arith, none r.mwh r.moment))
 
   front_equal : (l : Option MeterReading) (r t : MeterReading) → t.mwh ≡ r.mwh → t.moment ≡ r.moment → sum_by measure (pairs_between l (r ∷ []) (Some t)) ≡ sum_by measure (across l (Some t))
-  front_equal None r t level moment = one_pair (r, t) ∙ (λ i. g r.mwh (level i) r.moment (moment i) + 0) ∙ ap (λ n. n + 0) (none r.mwh r.moment)
-  front_equal (Some s) r t level moment =
-      let whole = sum_by-cons measure (s, r) ((r, t) ∷ []) in
-      let both : g r.mwh t.mwh r.moment t.moment ≡ g r.mwh r.mwh r.moment r.moment = (λ i. g r.mwh (level i) r.moment (moment i)) in
-      let zero : g r.mwh t.mwh r.moment t.moment ≡ 0 = both ∙ none r.mwh r.moment in
-      let back : g s.mwh t.mwh s.moment t.moment ≡ g s.mwh r.mwh s.moment r.moment = (λ i. g s.mwh (level i) s.moment (moment i)) in let same = sym back in
-      omega (arith, whole, zero, same, one_pair (r, t), one_pair (s, t))
+  front_equal None r t level moment = rw (level, moment) (omega (arith, none r.mwh r.moment))
+  front_equal (Some s) r t level moment = rw (level, moment) (omega (arith, none r.mwh r.moment))
 
   put_in_sums : (r : MeterReading) (front back : List MeterReading)
       → sum_by measure (pairs_between (last_reading front) (r ∷ []) (first_reading back)) ≡ sum_by measure (across (last_reading front) (first_reading back))
@@ -112,29 +84,24 @@ module _ (g : ℕ → ℕ → ℕ → ℕ → ℕ) (none : (v m : ℕ) → g v v
       → IsRepeat r less → sum_by measure (followed more) ≡ sum_by measure (followed less)
   repeat_sums r less more up put repeat =
       let P : MeterReading → Type 0 = λ s. s.moment ≡ r.moment → s.mwh ≡ r.mwh in
-      let rises : AreInTime taken_when (put.front ++ put.back) = subst (AreInTime taken_when) put.less_is up in
-      let all = front_all P put.front put.back (subst (AllByRecursion P) put.less_is (recursion_from_All P less repeat.level)) in
+      let rise = parts_rise put.front put.back (subst (AreInTime taken_when) put.less_is up) in
+      let all = parts_all P put.front put.back (subst (AllByRecursion P) put.less_is (recursion_from_All P less repeat.level)) in
       let there : of_moment taken_when r.moment (put.front ++ put.back) ≡ [] → ⊥ = λ none. repeat.there (ap (of_moment taken_when r.moment) put.less_is ∙ none) in
       ap (λ rs. sum_by measure (followed rs)) put.more_is
       ∙ put_in_sums r put.front put.back (⊎_elim
       (λ (empty : of_moment taken_when r.moment put.front ≡ []).
-      let first : IsFirst P r.moment put.back = first_of P r.moment put.back (back_rises put.front put.back rises) put.late
+      let first : IsAt P r.moment (first_reading put.back) = first_of P r.moment put.back rise.1 put.late
       (λ none. there (filter-append (λ s. eqb s.moment r.moment) put.front put.back ∙ (λ i. empty i ++ none i))) all.1 in
       (λ i. sum_by measure (pairs_between (last_reading put.front) (r ∷ []) (first.is i)))
       ∙ front_equal (last_reading put.front) r first.s (first.so first.moment) first.moment
       ∙ sym (ap (λ o. sum_by measure (across (last_reading put.front) o)) first.is))
       (λ (some : of_moment taken_when r.moment put.front ≡ [] → ⊥).
-      let last : IsLast P r.moment put.front = last_in P r.moment put.front (front_rises put.front put.back rises) put.early some all.0 in
+      let last : IsAt P r.moment (last_reading put.front) = last_of P r.moment put.front rise.0 put.early some all.0 in
       (λ i. sum_by measure (pairs_between (last.is i) (r ∷ []) (first_reading put.back)))
       ∙ behind_equal last.s r (first_reading put.back) (last.so last.moment) last.moment
       ∙ sym (ap (λ o. sum_by measure (across o (first_reading put.back))) last.is))
       (none_or_some (of_moment taken_when r.moment put.front)))
       ∙ ap (λ rs. sum_by measure (followed rs)) (sym put.less_is)
-    where
-      last_in : (P : MeterReading → Type 0) (m : ℕ) (rs : List MeterReading) → AreInTime taken_when rs → AreUpTo taken_when m rs
-          → (of_moment taken_when m rs ≡ [] → ⊥) → AllByRecursion P rs → IsLast P m rs
-      last_in P m [] up upto some all = absurd (some refl)
-      last_in P m (r ∷ rs) up upto some all = last_of P m r rs up upto some all
 
 same_or_apart : (d e : Direction) → (d ≡ e) ⊎ (same_direction d e ≡ false)
 same_or_apart Import Import = inl refl
@@ -157,37 +124,33 @@ module _ (es more : List Entry) (key : KeyName) (r : MeterReading) (one : IsOneR
   abbrev is_now : Entry
   is_now = (key, record { event = record one.event { readings = one.first ++ r ∷ one.last }; voided = false })
 
-  ids_stay : (front : List Entry) → map (λ (e : Entry). e.0.tx) (front ++ is_now ∷ one.back) ≡ map (λ (e : Entry). e.0.tx) (front ++ was ∷ one.back)
-  ids_stay [] = refl
-  ids_stay (e ∷ front) = ap (λ ts. e.0.tx ∷ ts) (ids_stay front)
+  ids_cut : (x : Entry) → ids (one.front ++ x ∷ one.back) ≡ ids one.front ++ ids (x ∷ one.back)
+  ids_cut x = map-append (λ (e : Entry). e.0.tx) one.front (x ∷ one.back)
 
   pub transactions_stay : transactions_of (live more) ≡ transactions_of (live es)
-  transactions_stay = ap transactions_of one.more_live ∙ ap distinct (ids_stay one.front) ∙ ap transactions_of (sym one.less_live)
+  transactions_stay = ap transactions_of one.more_live ∙ ap distinct (ids_cut is_now ∙ sym (ids_cut was)) ∙ ap transactions_of (sym one.less_live)
+
+  abbrev own : List ℕ → List Entry → List Entry
+  own tx es = filter (λ (e : Entry). bytes_eq tx e.0.tx) es
+
+  abbrev evse_named : Entry → Option ℕ
+  evse_named e = e.1.event.evse
 
   abbrev evses_in : List ℕ → List Entry → List ℕ
-  evses_in tx es = filter_map (λ (e : Entry). e.1.event.evse) (filter (λ (e : Entry). bytes_eq tx e.0.tx) es)
+  evses_in tx es = filter_map evse_named (own tx es)
 
-  evse_stays : (tx : List ℕ) (front : List Entry) → evses_in tx (front ++ is_now ∷ one.back) ≡ evses_in tx (front ++ was ∷ one.back)
-  evse_stays tx [] =
-      (elim (bytes_eq tx key.tx) as (λ b. filter_map (λ (e : Entry). e.1.event.evse)
-      (cond b (is_now ∷ filter (λ (e : Entry). bytes_eq tx e.0.tx) one.back) (filter (λ (e : Entry). bytes_eq tx e.0.tx) one.back))
-      ≡ filter_map (λ (e : Entry). e.1.event.evse)
-      (cond b (was ∷ filter (λ (e : Entry). bytes_eq tx e.0.tx) one.back) (filter (λ (e : Entry). bytes_eq tx e.0.tx) one.back))) [
-        | true
-            ↦ refl
-        | false ↦ refl
-      ])
-  evse_stays tx (x ∷ front) =
-      (elim (bytes_eq tx x.0.tx) as (λ b. filter_map (λ (e : Entry). e.1.event.evse)
-      (cond b (x ∷ filter (λ (e : Entry). bytes_eq tx e.0.tx) (front ++ is_now ∷ one.back)) (filter (λ (e : Entry). bytes_eq tx e.0.tx) (front ++ is_now ∷ one.back)))
-      ≡ filter_map (λ (e : Entry). e.1.event.evse)
-      (cond b (x ∷ filter (λ (e : Entry). bytes_eq tx e.0.tx) (front ++ was ∷ one.back)) (filter (λ (e : Entry). bytes_eq tx e.0.tx) (front ++ was ∷ one.back)))) [
-        | true ↦ ap (cons_option x.1.event.evse) (evse_stays tx front)
-        | false ↦ evse_stays tx front
-      ])
+  evse_stays : (tx : List ℕ) → evses_in tx (one.front ++ is_now ∷ one.back) ≡ evses_in tx (one.front ++ was ∷ one.back)
+  evse_stays tx = cut is_now ∙ ap (λ ns. evses_in tx one.front ++ ns) (stays (bytes_eq tx key.tx)) ∙ sym (cut was)
+    where
+      cut : (x : Entry) → evses_in tx (one.front ++ x ∷ one.back) ≡ evses_in tx one.front ++ evses_in tx (x ∷ one.back)
+      cut x = ap (filter_map evse_named) (filter-append (λ (e : Entry). bytes_eq tx e.0.tx) one.front (x ∷ one.back)) ∙ filter_map-append evse_named (own tx one.front) (own tx (x ∷ one.back))
+
+      stays : (b : Bool) → filter_map evse_named (cond b (is_now ∷ own tx one.back) (own tx one.back)) ≡ filter_map evse_named (cond b (was ∷ own tx one.back) (own tx one.back))
+      stays true = refl
+      stays false = refl
 
   pub evses_stay : (tx : List ℕ) → evse_of tx more ≡ evse_of tx es
-  evses_stay tx = ap (λ l. first_or_zero (evses_in tx l)) one.more_live ∙ ap first_or_zero (evse_stays tx one.front) ∙ ap (λ l. first_or_zero (evses_in tx l)) (sym one.less_live)
+  evses_stay tx = ap (λ l. first_or_zero (evses_in tx l)) one.more_live ∙ ap first_or_zero (evse_stays tx) ∙ ap (λ l. first_or_zero (evses_in tx l)) (sym one.less_live)
 
   -- A transaction's readings by sequence: they stay, or the reading is among them.
   record HasOneMore (d : Direction) (tx : List ℕ) : Type 0 where
@@ -195,9 +158,6 @@ module _ (es more : List Entry) (key : KeyName) (r : MeterReading) (one : IsOneR
     behind : List MeterReading
     less_is : readings_of d tx es ≡ before ++ behind
     more_is : readings_of d tx more ≡ before ++ r ∷ behind
-
-  abbrev own : List ℕ → List Entry → List Entry
-  own tx es = filter (λ (e : Entry). bytes_eq tx e.0.tx) es
 
   abbrev told : Direction → List Entry → List MeterReading
   told d es = flat_map (λ (e : Entry). toward d e.1.event.readings) es

@@ -1,6 +1,6 @@
 -- Elements in a row; some pass a test. The row with these and without.
-use Rattle.std.{proofs.Common.{◌≡◌, ℕ, ◌+◌, ◌*◌, ◌≤◌, Bool, true, false, cond, not, ◌&&◌, ◌||◌, List, [], ◌∷◌, ◌++◌, Option, Some, None, length, refl, ap, ◌∙◌, ⊎_elim, arith, length-append}, specs.List.{filter, sum_by, zip}, proofs.lemmas.Bool.cases_Bool, proofs.lemmas.List.Elements.filter-append, proofs.lemmas.List.Sums.sum_by-append}
-use Rattle.ledger_model.specs.InTime.{across_behind, across_runs, in_pairs, joined, runs, runs_behind}
+use Rattle.std.{proofs.Common.{◌≡◌, ℕ, ◌+◌, ◌*◌, ◌≤◌, Bool, true, false, cond, not, ◌&&◌, ◌||◌, List, [], ◌∷◌, ◌++◌, Option, Some, None, length, refl, ap, ◌∙◌, ⊎_elim, arith, length-append, ◌-◌}, specs.List.{filter, sum_by, zip}, proofs.lemmas.Bool.cases_Bool, proofs.lemmas.List.Elements.filter-append, proofs.lemmas.List.Filters.length-filter_both, proofs.lemmas.List.Sums.sum_by-append, proofs.lemmas.Slice.Zip.length-zip}
+use Rattle.ledger_model.{specs.InTime.{across_behind, across_runs, in_pairs, joined, runs, runs_behind}, proofs.SumLemmas.sum_by-const}
 
 module _ {X : Type 0} where
   -- The pairs in a row, with the element in front.
@@ -41,10 +41,6 @@ module _ {X : Type 0} (own : X → Bool) where
   joined_behind : (y x : X) → own y ≡ true → filter either (joined (Some y) x) ≡ joined (Some y) x
   joined_behind y x is = ap (λ b. cond {A = List (X × X)} (b || own x) (joined (Some y) x) []) is
 
-  few_joined : (front : Option X) (x : X) → length (joined front x) ≤ 1
-  few_joined None x = omega arith
-  few_joined (Some y) x = omega arith
-
   abbrev others : List X → List X
   others xs = filter (λ x. not (own x)) xs
 
@@ -77,34 +73,26 @@ module _ {X : Type 0} (own : X → Bool) where
       outside front foreign (x ∷ xs) = ⊎_elim
           (λ (is : own x ≡ true).
           let rest = inside front foreign x is xs in
-          let gone = ap (sum_by f) (across_own front false x xs is) in
-          let left = ap (λ ys. sum_by f (pairs_behind front ys)) (others_own x xs is) in
-          let came = cut_either front x xs in let here = ap (sum_by f) (joined_own front x is) in
-          omega (arith, rest, gone, left, came, here, cut front x xs))
+          let here = ap (sum_by f) (joined_own front x is) in
+          rw (across_own front false x xs is, others_own x xs is) (omega (arith, rest, here, cut_either front x xs, cut front x xs)))
           (λ (is : own x ≡ false).
           let rest = outside (Some x) is xs in
-          let gone = ap (sum_by f) (across_foreign front false x xs is) in
-          let left = ap (λ ys. sum_by f (pairs_behind front ys)) (others_foreign x xs is) ∙ cut front x (others xs) in
-          let came = cut_either front x xs in let here = ap (sum_by f) (joined_foreign front x foreign is) in
-          omega (arith, rest, gone, left, came, here, cut front x xs))
+          let here = ap (sum_by f) (joined_foreign front x foreign is) in
+          rw (across_foreign front false x xs is, others_foreign x xs is) (omega (arith, rest, here, cut_either front x xs, cut front x xs, cut front x (others xs))))
           (cases_Bool (own x))
 
       inside : (front : Option X) → IsForeign front → (y : X) → own y ≡ true → (xs : List X)
           → sum_by f (pairs_behind (Some y) xs) + sum_by f (across_behind front true own xs) ≡ sum_by f (pairs_behind front (others xs)) + sum_by f (filter either (pairs_behind (Some y) xs))
       inside front foreign y run [] = refl
-      inside front foreign y run (x ∷ xs) = ⊎_elim
+      inside front foreign y run (x ∷ xs) =
+          let here = ap (sum_by f) (joined_behind y x run) in ⊎_elim
           (λ (is : own x ≡ true).
           let rest = inside front foreign x is xs in
-          let gone = ap (sum_by f) (across_own front true x xs is) in
-          let left = ap (λ ys. sum_by f (pairs_behind front ys)) (others_own x xs is) in
-          let came = cut_either (Some y) x xs in let here = ap (sum_by f) (joined_behind y x run) in
-          omega (arith, rest, gone, left, came, here, cut (Some y) x xs))
+          rw (across_own front true x xs is, others_own x xs is) (omega (arith, rest, here, cut_either (Some y) x xs, cut (Some y) x xs)))
           (λ (is : own x ≡ false).
           let rest = outside (Some x) is xs in
-          let gone = ap (sum_by f) (across_foreign front true x xs is) ∙ sum_by-append f (joined front x) (across_behind (Some x) false own xs) in
-          let left = ap (λ ys. sum_by f (pairs_behind front ys)) (others_foreign x xs is) ∙ cut front x (others xs) in
-          let came = cut_either (Some y) x xs in let here = ap (sum_by f) (joined_behind y x run) in
-          omega (arith, rest, gone, left, came, here, cut (Some y) x xs))
+          let gone = sum_by-append f (joined front x) (across_behind (Some x) false own xs) in
+          rw (across_foreign front true x xs is, others_foreign x xs is) (omega (arith, rest, here, gone, cut_either (Some y) x xs, cut (Some y) x xs, cut front x (others xs))))
           (cases_Bool (own x))
 
     -- Sums over the pairs in a row: those across the runs go, and those come that have an element
@@ -115,61 +103,50 @@ module _ {X : Type 0} (own : X → Bool) where
         let with_them = ap (sum_by f) (pairs_in_row xs) in let without = ap (sum_by f) (pairs_in_row (others xs)) in let came = ap (λ ps. sum_by f (filter either ps)) (pairs_in_row xs) in
         omega (arith, all, with_them, without, came)
 
-  abbrev count : List X → ℕ
-  count xs = length (filter own xs)
-
-  count_own : (x : X) (xs : List X) → own x ≡ true → count (x ∷ xs) ≡ count xs + 1
-  count_own x xs is = ap (λ b. length (cond b (x ∷ filter own xs) (filter own xs))) is ∙ omega arith
-
-  count_foreign : (x : X) (xs : List X) → own x ≡ false → count (x ∷ xs) ≡ count xs
-  count_foreign x xs is = ap (λ b. length (cond b (x ∷ filter own xs) (filter own xs))) is
-
   pub runs_own : (front : Bool) (x : X) (xs : List X) → own x ≡ true → runs_behind front own (x ∷ xs) ≡ cond (not front) 1 0 + runs_behind true own xs
   runs_own front x xs is = (λ i. cond (is i && not front) 1 0 + runs_behind (is i) own xs)
 
   pub runs_foreign : (front : Bool) (x : X) (xs : List X) → own x ≡ false → runs_behind front own (x ∷ xs) ≡ runs_behind false own xs
   runs_foreign front x xs is = let here : runs_behind front own (x ∷ xs) ≡ 0 + runs_behind false own xs = (λ i. cond (is i && not front) 1 0 + runs_behind (is i) own xs) in omega (arith, here)
 
-  cut_length : (front : Option X) (x : X) (xs : List X)
-      → length (filter either (pairs_behind front (x ∷ xs))) ≡ length (filter either (joined front x)) + length (filter either (pairs_behind (Some x) xs))
-  cut_length front x xs = ap length (filter-append either (joined front x) (pairs_behind (Some x) xs)) ∙ length-append (filter either (joined front x)) (filter either (pairs_behind (Some x) xs))
+  -- No more pairs are across runs than there are runs, with the one that an element in front is in.
+  few_across : (front : Option X) (since : Bool) (xs : List X) → length (across_behind front since own xs) ≤ runs_behind since own xs + cond since 1 0
+  few_across front since [] = omega arith
+  few_across front since (x ∷ xs) = by_case (own x) (few_across front true xs) (few_across (Some x) false xs)
+    where
+      few_joined : (since : Bool) (front : Option X) → length (cond since (joined front x) []) ≤ cond since 1 0
+      few_joined true None = omega arith
+      few_joined true (Some y) = omega arith
+      few_joined false front = omega arith
 
-  mutual
-    few_outside : (front : Option X) → IsForeign front → (xs : List X)
-        → length (across_behind front false own xs) + length (filter either (pairs_behind front xs)) ≤ count xs + 2 * runs_behind false own xs
-    few_outside front foreign [] = omega arith
-    few_outside front foreign (x ∷ xs) = ⊎_elim
-        (λ (is : own x ≡ true).
-        let rest = few_inside front foreign x is xs in
-        let gone = ap length (across_own front false x xs is) in
-        let here = ap length (joined_own front x is) in
-        omega (arith, rest, gone, here, few_joined front x, cut_length front x xs, count_own x xs is, runs_own false x xs is))
-        (λ (is : own x ≡ false).
-        let rest = few_outside (Some x) is xs in
-        let gone = ap length (across_foreign front false x xs is) in
-        let here = ap length (joined_foreign front x foreign is) in
-        omega (arith, rest, gone, here, cut_length front x xs, count_foreign x xs is, runs_foreign false x xs is))
-        (cases_Bool (own x))
+      begun : (since : Bool) (n : ℕ) → n + 1 ≤ cond (not since) 1 0 + n + cond since 1 0
+      begun true n = omega arith
+      begun false n = omega arith
 
-    few_inside : (front : Option X) → IsForeign front → (y : X) → own y ≡ true → (xs : List X)
-        → length (across_behind front true own xs) + length (filter either (pairs_behind (Some y) xs)) ≤ count xs + 2 * runs_behind true own xs + 2
-    few_inside front foreign y run [] = omega arith
-    few_inside front foreign y run (x ∷ xs) = ⊎_elim
-        (λ (is : own x ≡ true).
-        let rest = few_inside front foreign x is xs in
-        let gone = ap length (across_own front true x xs is) in
-        let here = ap length (joined_behind y x run) in
-        omega (arith, rest, gone, here, cut_length (Some y) x xs, count_own x xs is, runs_own true x xs is))
-        (λ (is : own x ≡ false).
-        let rest = few_outside (Some x) is xs in
-        let gone = ap length (across_foreign front true x xs is) ∙ length-append (joined front x) (across_behind (Some x) false own xs) in
-        let here = ap length (joined_behind y x run) in
-        omega (arith, rest, gone, here, few_joined front x, cut_length (Some y) x xs, count_foreign x xs is, runs_foreign true x xs is))
-        (cases_Bool (own x))
+      by_case : (b : Bool) → length (across_behind front true own xs) ≤ runs_behind true own xs + 1 → length (across_behind (Some x) false own xs) ≤ runs_behind false own xs + 0
+          → length (cond b (across_behind front true own xs) (cond since (joined front x) [] ++ across_behind (Some x) false own xs))
+          ≤ cond (b && not since) 1 0 + runs_behind b own xs + cond since 1 0
+      by_case true on off = omega (arith, on, begun since (runs_behind true own xs))
+      by_case false on off = omega (arith, off, length-append (cond since (joined front x) []) (across_behind (Some x) false own xs), few_joined since front)
+
+  length-in_pairs : (xs : List X) → length (in_pairs xs) ≡ length xs - 1
+  length-in_pairs [] = refl
+  length-in_pairs (x ∷ xs) = omega (arith, length-zip (x ∷ xs) xs)
 
   -- No more than these come and go.
   pub few_by_runs : (xs : List X) → length (across_runs own xs) + length (filter either (in_pairs xs)) ≤ length (filter own xs) + 2 * runs own xs
-  few_by_runs xs = let came = ap (λ ps. length (filter either ps)) (pairs_in_row xs) in omega (arith, few_outside None tt xs, came)
+  few_by_runs xs = omega (
+    arith,
+    runs_sums (λ p. 1) xs,
+    sum_by-const 1 (in_pairs xs),
+    sum_by-const 1 (across_runs own xs),
+    sum_by-const 1 (in_pairs (others xs)),
+    sum_by-const 1 (filter either (in_pairs xs)),
+    length-in_pairs xs,
+    length-in_pairs (others xs),
+    length-filter_both own (λ x. not (own x)) (λ x. refl) xs,
+    few_across None false xs,
+  )
 
   -- Elements that all pass, or all fail.
   abbrev pub AreOwn : List X → Type 0

@@ -1,14 +1,6 @@
 -- Runs of a world, station by station, and runs of deliveries in another order.
-use Rattle.std.{proofs.Common.{◌≡◌, ℕ, Bool, true, false, cond, List, [], ◌∷◌, ◌++◌, Some, None, map, All, refl, ap, sym, subst, ◌∙◌, bytes_eq, IsPermutation, suc, arith}, specs.List.cons_option, proofs.lemmas.List.Elements.{All-cons, All-nil}}
-use Rattle.ledger_model.{specs.declared.command.Command.Command, specs.declared.command.Command.TheVariants.{Deliver, Void, Restore, Erase}, specs.declared.answer.Answer.Answer, specs.declared.answer.Answer.TheVariants.{Accepted, Repeat, Refused}, specs.Limits.Bounds, specs.Content.Content, specs.Laws.{AreAccepted, IsAccepted, deliveries, left_by}, specs.Step.{answer, content_after, step}, specs.World.{Station, World, Happens, run, station_after, world_after}, specs.WorldLaws.{AreReordered, IsDelivery, accepted_deliveries, commands_on, delivered_by, station_left}, proofs.Deliveries.orders_content}
-
--- ---- lists
-
-first_of : {X : Type 0} (P : X → Type 0) (x : X) (xs : List X) → All P (x ∷ xs) → P x
-first_of P x xs all = all 0 x (omega arith)
-
-others_of : {X : Type 0} (P : X → Type 0) (x : X) (xs : List X) → All P (x ∷ xs) → All P xs
-others_of P x xs all = λ k d lt. all (suc k) d (omega arith)
+use Rattle.std.{proofs.Common.{◌≡◌, ℕ, Bool, true, false, cond, List, [], ◌∷◌, ◌++◌, Some, None, map, All, refl, ap, sym, subst, ◌∙◌, bytes_eq, IsPermutation}, specs.List.cons_option, proofs.lemmas.List.Elements.{All-cons, All-head, All-nil, All-tail}}
+use Rattle.ledger_model.{specs.declared.command.Command.Command, specs.declared.command.Command.TheVariants.{Deliver, Void, Restore, Erase}, specs.declared.answer.Answer.Answer, specs.declared.answer.Answer.TheVariants.{Accepted, Repeat, Refused}, specs.Limits.Bounds, specs.Content.Content, specs.Laws.{AreAccepted, IsAccepted, deliveries, left_by}, specs.Step.{answer, content_after, step}, specs.World.{Station, World, Happens, run, station_after, world_after}, specs.WorldLaws.{AreReordered, IsDelivery, accepted_deliveries, commands_on, delivered_by, station_left}, proofs.Deliveries.each_order_delivers}
 
 -- ---- station by station
 
@@ -61,14 +53,14 @@ pub delivers : (limits : Bounds) (c : Content) (commands : List Command) → All
     × (left_by limits c (deliveries (accepted_deliveries limits c commands)) ≡ left_by limits c commands)
 delivers limits c [] all = (tt, refl)
 delivers limits c (command ∷ commands) all =
-    let later = delivers limits (step limits c command).0 commands (others_of IsDelivery command commands all) in
-    let first = one_delivery limits c command commands (answer limits c command) (first_of IsDelivery command commands all) refl later.0 in
+    let later = delivers limits (step limits c command).0 commands (All-tail IsDelivery command commands all) in
+    let first = one_delivery limits c command commands (answer limits c command) (All-head IsDelivery command commands all) refl later.0 in
     (first.0, first.1 ∙ later.1)
 
 -- the commands on a station are deliveries where all of the run are
 delivered_on : (name : List ℕ) (hs : List Happens) → All (λ h. IsDelivery h.1) hs → All IsDelivery (commands_on name hs)
 delivered_on name [] all = All-nil IsDelivery
-delivered_on name (h ∷ hs) all = at (bytes_eq h.0 name) (first_of (λ g. IsDelivery g.1) h hs all) (delivered_on name hs (others_of (λ g. IsDelivery g.1) h hs all))
+delivered_on name (h ∷ hs) all = at (bytes_eq h.0 name) (All-head (λ g. IsDelivery g.1) h hs all) (delivered_on name hs (All-tail (λ g. IsDelivery g.1) h hs all))
   where
     at : (b : Bool) → IsDelivery h.1 → All IsDelivery (commands_on name hs) → All IsDelivery (cons_option (cond b (Some h.1) None) (commands_on name hs))
     at true is rest = All-cons IsDelivery h.1 (commands_on name hs) is rest
@@ -80,7 +72,7 @@ pub reordered_station : (s : Station) (one other : List Happens) → All (λ h. 
 reordered_station s one other o r same =
     let a = delivers s.limits s.content (commands_on s.name one) (delivered_on s.name one o) in
     let b = delivers s.limits s.content (commands_on s.name other) (delivered_on s.name other r) in
-    ap (λ c. record s { content = c }) (sym a.1 ∙ sym (orders_content s.limits s.content _ _ same a.0) ∙ b.1)
+    ap (λ c. record s { content = c }) (sym a.1 ∙ sym ((each_order_delivers s.limits s.content _ _ same a.0).content) ∙ b.1)
 
 -- the same deliveries at a station, in another order
 abbrev Reorders : List Happens → List Happens → Station → Type 0
@@ -90,8 +82,8 @@ reordered_stations : (w : World) (one other : List Happens) → All (λ h. IsDel
     → map (station_left one) w ≡ map (station_left other) w
 reordered_stations [] one other o r all = refl
 reordered_stations (s ∷ w) one other o r all =
-    ap (λ t. t ∷ map (station_left one) w) (reordered_station s one other o r (first_of (Reorders one other) s w all))
-    ∙ ap (λ l. station_left other s ∷ l) (reordered_stations w one other o r (others_of (Reorders one other) s w all))
+    ap (λ t. t ∷ map (station_left one) w) (reordered_station s one other o r (All-head (Reorders one other) s w all))
+    ∙ ap (λ l. station_left other s ∷ l) (reordered_stations w one other o r (All-tail (Reorders one other) s w all))
 
 pub reordered_runs : (w : World) (one other : List Happens) → AreReordered w one other → run w one ≡ run w other
 reordered_runs w one other r =

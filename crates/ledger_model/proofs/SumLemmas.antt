@@ -1,31 +1,24 @@
 -- Sums over lists, and over the distinct keys of their elements.
-use Rattle.std.{proofs.Common.{◌≡◌, ℕ, ◌<◌, ◌+◌, ◌*◌, ◌⊎◌, ◌↔◌, Bool, true, false, cond, List, [], ◌∷◌, ◌++◌, refl, ap, sym, ◌∙◌, subst, ⊎_elim, inl, inr, arith, map, eqb}, specs.Prelude.{filter, sum_by, count_by}, specs.List.flat_map, proofs.Math.Path.fun_ext, proofs.lemmas.Bool.{eq-eqb, ne_eqb, lt-ltb, le-ltb, cases_order, cases_eq}, proofs.lemmas.List.Sums.{sum_by-cons, sum_by-append}}
+use Rattle.std.{proofs.Common.{◌≡◌, ℕ, ◌<◌, ◌+◌, ◌*◌, ◌⊎◌, ◌↔◌, Bool, true, false, cond, List, [], ◌∷◌, ◌++◌, refl, ap, sym, ◌∙◌, subst, ⊎_elim, inl, inr, arith, map, eqb}, specs.Prelude.{filter, sum_by, count_by, nat_lt, length, All}, specs.List.flat_map, proofs.Math.Path.fun_ext, proofs.lemmas.Bool.{cond_both, eqb-true, eqb-false, ltb-true, ltb-false, eq-eqb, ne_eqb, lt-ltb, le-ltb, cases_eq}, proofs.lemmas.List.Elements.{All-nil, All-cons, All-head, All-tail}, proofs.lemmas.List.Folds.fold-map, proofs.lemmas.List.Recursion.is_sum_by, proofs.lemmas.List.Sums.{sum_by-cons, sum_by-append, length-filter}, proofs.Math.Nat.mul_comm}
 use Rattle.ledger_model.{specs.Energy.{put_in, rising}, specs.BoardLaws.{AreRising, IsIn}}
 
 pub sum_by-same : {X : Type 0} (f g : X → ℕ) → ((x : X) → f x ≡ g x) → (xs : List X) → sum_by f xs ≡ sum_by g xs
 sum_by-same f g e xs = ap (λ h. sum_by h xs) (fun_ext e)
 
 pub sum_by-none : {X : Type 0} (xs : List X) → sum_by (λ x. 0) xs ≡ 0
-sum_by-none [] = refl
-sum_by-none (x ∷ xs) = sum_by-cons (λ x. 0) x xs ∙ (let rest = sum_by-none xs in omega (arith, rest))
+sum_by-none xs = sym (is_sum_by (λ xs. 0) (λ x. 0) refl (λ x xs. refl) xs)
+
+pub sum_by-const : {X : Type 0} (n : ℕ) (xs : List X) → sum_by (λ x. n) xs ≡ n * length xs
+sum_by-const n xs = sym (is_sum_by (λ xs. n * length xs) (λ x. n) (omega arith) (λ x xs. omega arith) xs)
 
 pub sum_by-plus : {X : Type 0} (f g : X → ℕ) (xs : List X) → sum_by (λ x. f x + g x) xs ≡ sum_by f xs + sum_by g xs
-sum_by-plus f g [] = refl
-sum_by-plus f g (x ∷ xs) =
-    let rest : sum_by (λ x. f x + g x) xs ≡ sum_by f xs + sum_by g xs = sum_by-plus f g xs in
-    omega (arith, sum_by-cons (λ x. f x + g x) x xs, sum_by-cons f x xs, sum_by-cons g x xs, rest)
+sum_by-plus f g xs = sym (is_sum_by (λ xs. sum_by f xs + sum_by g xs) (λ x. f x + g x) refl (λ x xs. omega (arith, sum_by-cons f x xs, sum_by-cons g x xs)) xs)
 
 pub sum_by-map : {X Y : Type 0} (f : Y → ℕ) (h : X → Y) (xs : List X) → sum_by f (map h xs) ≡ sum_by (λ x. f (h x)) xs
-sum_by-map f h [] = refl
-sum_by-map f h (x ∷ xs) =
-    let rest : sum_by f (map h xs) ≡ sum_by (λ x. f (h x)) xs = sum_by-map f h xs in
-    sum_by-cons f (h x) (map h xs) ∙ ap (λ n. f (h x) + n) rest ∙ sym (sum_by-cons (λ x. f (h x)) x xs)
+sum_by-map f h xs = fold-map (λ n y. n + f y) h 0 xs
 
 pub sum_by-flat_map : {X Y : Type 0} (f : Y → ℕ) (h : X → List Y) (xs : List X) → sum_by f (flat_map h xs) ≡ sum_by (λ x. sum_by f (h x)) xs
-sum_by-flat_map f h [] = refl
-sum_by-flat_map f h (x ∷ xs) =
-    let rest : sum_by f (flat_map h xs) ≡ sum_by (λ x. sum_by f (h x)) xs = sum_by-flat_map f h xs in
-    sum_by-append f (h x) (flat_map h xs) ∙ ap (λ n. sum_by f (h x) + n) rest ∙ sym (sum_by-cons (λ x. sum_by f (h x)) x xs)
+sum_by-flat_map f h xs = is_sum_by (λ xs. sum_by f (flat_map h xs)) (λ x. sum_by f (h x)) refl (λ x xs. sum_by-append f (h x) (flat_map h xs)) xs
 
 pub sum_by-filter_cons : {X : Type 0} (f : X → ℕ) (p : X → Bool) (x : X) (xs : List X) → sum_by f (filter p (x ∷ xs)) ≡ cond (p x) (f x) 0 + sum_by f (filter p xs)
 sum_by-filter_cons f p x xs =
@@ -33,6 +26,18 @@ sum_by-filter_cons f p x xs =
       | true ↦ sum_by-cons f x (filter p xs)
       | false ↦ omega arith
     ]
+
+-- What is taken of a sum where a test holds.
+abbrev pub taken : Bool → ℕ → ℕ
+taken b n = cond b n 0
+
+-- A sum over those that pass a test, as one over all.
+pub passed_sum : {X : Type 0} (measure : X → ℕ) (p : X → Bool) (xs : List X) → sum_by measure (filter p xs) ≡ sum_by (λ x. taken (p x) (measure x)) xs
+passed_sum measure p xs = is_sum_by (λ xs. sum_by measure (filter p xs)) (λ x. taken (p x) (measure x)) refl (λ x xs. sum_by-filter_cons measure p x xs) xs
+
+-- one term, at each element that passes a test
+pub sum_by-count : {X : Type 0} (p : X → Bool) (c : ℕ) (xs : List X) → sum_by (λ x. taken (p x) c) xs ≡ count_by p xs * c
+sum_by-count p c xs = sym (passed_sum (λ x. c) p xs) ∙ sum_by-const c (filter p xs) ∙ ap (λ n. c * n) (length-filter p xs) ∙ mul_comm c (count_by p xs)
 
 -- how often a number is in a list
 abbrev pub times : ℕ → List ℕ → ℕ
@@ -46,38 +51,23 @@ times-other n m ns apart =
     let e : times n (m ∷ ns) ≡ 0 + times n ns = sum_by-cons (λ k. cond (eqb n k) 1 0) m ns ∙ ap (λ b. cond b 1 0 + times n ns) (ne_eqb n m apart) in
     omega (arith, e)
 
--- one term, at each place of a number
-pub sum_by-times : (n c : ℕ) (ns : List ℕ) → sum_by (λ m. cond (eqb n m) c 0) ns ≡ times n ns * c
-sum_by-times n c [] = omega arith
-sum_by-times n c (m ∷ ns) =
-    let rest : sum_by (λ m. cond (eqb n m) c 0) ns ≡ times n ns * c = sum_by-times n c ns in
-    let cons : sum_by (λ m. cond (eqb n m) c 0) (m ∷ ns) ≡ cond (eqb n m) c 0 + sum_by (λ m. cond (eqb n m) c 0) ns = sum_by-cons (λ m. cond (eqb n m) c 0) m ns in
-    let count : times n (m ∷ ns) ≡ cond (eqb n m) 1 0 + times n ns = sum_by-cons (λ k. cond (eqb n k) 1 0) m ns in
-    cons ∙ ap (λ k. cond (eqb n m) c 0 + k) rest ∙ step (eqb n m) c (times n ns) ∙ ap (λ k. k * c) (sym count)
-  where
-    step : (b : Bool) (c k : ℕ) → cond b c 0 + k * c ≡ (cond b 1 0 + k) * c
-    step true c k = omega arith
-    step false c k = omega arith
-
--- each element's key occurs once in a list
-abbrev pub AreOnce : {X : Type 0} → (X → ℕ) → List ℕ → List X → Type 0
-AreOnce key ks [] = Unit {0}
-AreOnce key ks (x ∷ xs) = (times (key x) ks ≡ 1) × AreOnce key ks xs
-
--- a sum over the keys, of the sums over the elements of each key, is the sum over all elements
-pub sum_by_keys : {X : Type 0} (f key : X → ℕ) (ks : List ℕ) (xs : List X) → AreOnce key ks xs
-    → sum_by (λ k. sum_by f (filter (λ x. eqb (key x) k) xs)) ks ≡ sum_by f xs
-sum_by_keys f key ks [] once = sum_by-none ks
-sum_by_keys f key ks (x ∷ xs) once =
-    let rest : sum_by (λ k. sum_by f (filter (λ x. eqb (key x) k) xs)) ks ≡ sum_by f xs = sum_by_keys f key ks xs once.1 in
-    let each : sum_by (λ k. sum_by f (filter (λ x. eqb (key x) k) (x ∷ xs))) ks ≡ sum_by (λ k. cond (eqb (key x) k) (f x) 0 + sum_by f (filter (λ x. eqb (key x) k) xs)) ks
-    = sum_by-same _ _ (λ k. sum_by-filter_cons f (λ x. eqb (key x) k) x xs) ks in
-    let parted = sum_by-plus (λ k. cond (eqb (key x) k) (f x) 0) (λ k. sum_by f (filter (λ x. eqb (key x) k) xs)) ks in
-    let here : sum_by (λ k. cond (eqb (key x) k) (f x) 0) ks ≡ f x = sum_by-times (key x) (f x) ks ∙ ap (λ n. n * f x) once.0 ∙ one_times (f x) in
-    each ∙ parted ∙ ap (λ n. n + sum_by (λ k. sum_by f (filter (λ x. eqb (key x) k) xs)) ks) here ∙ ap (λ n. f x + n) rest ∙ sym (sum_by-cons f x xs)
-  where
-    one_times : (n : ℕ) → 1 * n ≡ n
-    one_times n = omega arith
+-- a sum over keys, of the sums over the elements that belong to each, is the sum over all elements, where each
+-- belongs to one key
+pub sum_by_keys : {K X : Type 0} (f : X → ℕ) (has : K → X → Bool) (ks : List K) (xs : List X) → All (λ x. count_by (λ k. has k x) ks ≡ 1) xs
+    → sum_by (λ k. sum_by f (filter (has k) xs)) ks ≡ sum_by f xs
+sum_by_keys f has ks [] once = sum_by-none ks
+sum_by_keys f has ks (x ∷ xs) once =
+    let each = sum_by-same _ _ (λ k. sum_by-filter_cons f (has k) x xs) ks in
+    let one : count_by (λ k. has k x) ks ≡ 1 = All-head (λ x. count_by (λ k. has k x) ks ≡ 1) x xs once in
+    let here = sum_by-count (λ k. has k x) (f x) ks ∙ ap (λ n. n * f x) one in
+    omega (
+      arith,
+      each,
+      sum_by-plus (λ k. taken (has k x) (f x)) (λ k. sum_by f (filter (has k) xs)) ks,
+      here,
+      sum_by_keys f has ks xs (All-tail (λ x. count_by (λ k. has k x) ks ≡ 1) x xs once),
+      sum_by-cons f x xs,
+    )
 
 -- what put_in does, by where the number is
 pub put_in-same : (n m : ℕ) (ms : List ℕ) → n ≡ m → put_in n (m ∷ ms) ≡ m ∷ ms
@@ -89,26 +79,20 @@ put_in-below n m ms less = rw (ne_eqb n m (λ e. absurd (omega arith)), lt-ltb n
 pub put_in-above : (n m : ℕ) (ms : List ℕ) → m < n → put_in n (m ∷ ms) ≡ m ∷ put_in n ms
 put_in-above n m ms less = rw (ne_eqb n m (λ e. absurd (omega arith)), le-ltb n m (omega arith))
 
+-- what is so of each list that put_in may give
+put_in_cases : (P : List ℕ → Type 0) (n m : ℕ) (ms : List ℕ) → (n ≡ m → P (m ∷ ms)) → (n < m → P (n ∷ m ∷ ms)) → (m < n → P (m ∷ put_in n ms)) → P (put_in n (m ∷ ms))
+put_in_cases P n m ms same below above = cond_both (eqb n m) _ _ P (λ e. same (eqb-true n m e)) (λ apart.
+    cond_both (nat_lt n m) _ _ P (λ less. below (ltb-true n m less)) (λ more. above (omega (arith, ltb-false n m more, eqb-false n m apart))))
+
 -- put_in keeps a list rising
 rising_behind : (low n : ℕ) (ms : List ℕ) → low < n → AreRising (low ∷ ms) → AreRising (low ∷ put_in n ms)
 rising_behind low n [] less up = (less, tt)
-rising_behind low n (m ∷ ms) less up = ⊎_elim
-    (λ (e : n ≡ m). subst (λ ks. AreRising (low ∷ ks)) (sym (put_in-same n m ms e)) up)
-    (λ (o : (n < m) ⊎ (m < n)). ⊎_elim
-    (λ (below : n < m). subst (λ ks. AreRising (low ∷ ks)) (sym (put_in-below n m ms below)) (less, (below, up.1)))
-    (λ (above : m < n). subst (λ ks. AreRising (low ∷ ks)) (sym (put_in-above n m ms above)) (up.0, rising_behind m n ms above up.1))
-    o)
-    (cases_order n m)
+rising_behind low n (m ∷ ms) less up =
+    put_in_cases (λ ks. AreRising (low ∷ ks)) n m ms (λ same. up) (λ below. (less, (below, up.1))) (λ above. (up.0, rising_behind m n ms above up.1))
 
 put_in-AreRising : (n : ℕ) (ms : List ℕ) → AreRising ms → AreRising (put_in n ms)
 put_in-AreRising n [] up = tt
-put_in-AreRising n (m ∷ ms) up = ⊎_elim
-    (λ (e : n ≡ m). subst AreRising (sym (put_in-same n m ms e)) up)
-    (λ (o : (n < m) ⊎ (m < n)). ⊎_elim
-    (λ (below : n < m). subst AreRising (sym (put_in-below n m ms below)) (below, up))
-    (λ (above : m < n). subst AreRising (sym (put_in-above n m ms above)) (rising_behind m n ms above up))
-    o)
-    (cases_order n m)
+put_in-AreRising n (m ∷ ms) up = put_in_cases AreRising n m ms (λ same. up) (λ below. (below, up)) (λ above. rising_behind m n ms above up)
 
 pub rising-AreRising : (ns : List ℕ) → AreRising (rising ns)
 rising-AreRising [] = tt
@@ -125,13 +109,10 @@ times-behind n (m ∷ ms) up = times-below n m ms up.0 up.1
 
 times-put_in : (n : ℕ) (ms : List ℕ) → AreRising ms → times n (put_in n ms) ≡ 1
 times-put_in n [] up = times-here n n [] refl
-times-put_in n (m ∷ ms) up = ⊎_elim
-    (λ (e : n ≡ m). ap (times n) (put_in-same n m ms e) ∙ times-here n m ms e ∙ ap (λ k. 1 + k) (times-behind n ms (subst (λ k. AreRising (k ∷ ms)) (sym e) up)))
-    (λ (o : (n < m) ⊎ (m < n)). ⊎_elim
-    (λ (below : n < m). ap (times n) (put_in-below n m ms below) ∙ times-here n n (m ∷ ms) refl ∙ ap (λ k. 1 + k) (times-below n m ms below up))
-    (λ (above : m < n). ap (times n) (put_in-above n m ms above) ∙ times-other n m (put_in n ms) (λ e. absurd (omega arith)) ∙ times-put_in n ms (tail m ms up))
-    o)
-    (cases_order n m)
+times-put_in n (m ∷ ms) up = put_in_cases (λ ks. times n ks ≡ 1) n m ms
+    (λ e. times-here n m ms e ∙ ap (λ k. 1 + k) (times-behind n ms (subst (λ k. AreRising (k ∷ ms)) (sym e) up)))
+    (λ below. times-here n n (m ∷ ms) refl ∙ ap (λ k. 1 + k) (times-below n m ms below up))
+    (λ above. times-other n m (put_in n ms) (λ e. absurd (omega arith)) ∙ times-put_in n ms (tail m ms up))
   where
     tail : (m : ℕ) (ms : List ℕ) → AreRising (m ∷ ms) → AreRising ms
     tail m [] up = tt
@@ -139,14 +120,8 @@ times-put_in n (m ∷ ms) up = ⊎_elim
 
 times-put_other : (n k : ℕ) (ms : List ℕ) → (n ≡ k → ⊥) → times n (put_in k ms) ≡ times n ms
 times-put_other n k [] apart = times-other n k [] apart
-times-put_other n k (m ∷ ms) apart = ⊎_elim
-    (λ (e : k ≡ m). ap (times n) (put_in-same k m ms e))
-    (λ (o : (k < m) ⊎ (m < k)). ⊎_elim
-    (λ (below : k < m). ap (times n) (put_in-below k m ms below) ∙ times-other n k (m ∷ ms) apart)
-    (λ (above : m < k). ap (times n) (put_in-above k m ms above) ∙ sum_by-cons (λ j. cond (eqb n j) 1 0) m (put_in k ms)
-    ∙ ap (λ j. cond (eqb n m) 1 0 + j) (times-put_other n k ms apart) ∙ sym (sum_by-cons (λ j. cond (eqb n j) 1 0) m ms))
-    o)
-    (cases_order k m)
+times-put_other n k (m ∷ ms) apart = put_in_cases (λ ks. times n ks ≡ times n (m ∷ ms)) k m ms (λ same. refl) (λ below. times-other n k (m ∷ ms) apart)
+    (λ above. let rest = times-put_other n k ms apart in omega (arith, rest, sum_by-cons (λ j. cond (eqb n j) 1 0) m (put_in k ms), sum_by-cons (λ j. cond (eqb n j) 1 0) m ms))
 
 -- each number of a list occurs once among its rising numbers
 times-rising : (n : ℕ) (ns : List ℕ) → IsIn n ns → times n (rising ns) ≡ 1
@@ -156,14 +131,15 @@ times-rising n (m ∷ ns) h = ⊎_elim
     (λ (apart : n ≡ m → ⊥). times-put_other n m (rising ns) apart ∙ times-rising n ns (⊎_elim (λ (e : n ≡ m). absurd (apart e)) (λ (there : IsIn n ns). there) h))
     (cases_eq n m)
 
-once_each : {X : Type 0} (key : X → ℕ) (ks : List ℕ) (xs : List X) → ((n : ℕ) → IsIn n (map key xs) → times n ks ≡ 1) → AreOnce key ks xs
-once_each key ks [] h = tt
-once_each key ks (x ∷ xs) h = (h (key x) (inl refl), once_each key ks xs (λ n there. h n (inr there)))
+once_each : {X : Type 0} (key : X → ℕ) (ks : List ℕ) (xs : List X) → ((n : ℕ) → IsIn n (map key xs) → times n ks ≡ 1) → All (λ x. times (key x) ks ≡ 1) xs
+once_each key ks [] h = All-nil (λ x. times (key x) ks ≡ 1)
+once_each key ks (x ∷ xs) h = All-cons (λ x. times (key x) ks ≡ 1) x xs (h (key x) (inl refl)) (once_each key ks xs (λ n there. h n (inr there)))
 
--- the same over the rising keys of a list that has each of theirs
+-- a sum over the rising keys of a list that has each key of the elements
 pub sum_by_among : {X : Type 0} (f key : X → ℕ) (xs ys : List X) → ((n : ℕ) → IsIn n (map key xs) → IsIn n (map key ys))
     → sum_by (λ k. sum_by f (filter (λ x. eqb (key x) k) xs)) (rising (map key ys)) ≡ sum_by f xs
-sum_by_among f key xs ys among = sum_by_keys f key (rising (map key ys)) xs (once_each key (rising (map key ys)) xs (λ n there. times-rising n (map key ys) (among n there)))
+sum_by_among f key xs ys among =
+    sum_by_keys f (λ k x. eqb (key x) k) (rising (map key ys)) xs (once_each key (rising (map key ys)) xs (λ n there. times-rising n (map key ys) (among n there)))
 
 pub sum_by_rising : {X : Type 0} (f key : X → ℕ) (xs : List X) → sum_by (λ k. sum_by f (filter (λ x. eqb (key x) k) xs)) (rising (map key xs)) ≡ sum_by f xs
 sum_by_rising f key xs = sum_by_among f key xs xs (λ n there. there)
@@ -180,19 +156,13 @@ among_back key (x ∷ xs) ys n h = inr (among_back key xs ys n h)
 -- put_in adds one number
 put_in-IsIn : (n k : ℕ) (ms : List ℕ) → IsIn n (put_in k ms) ↔ ((n ≡ k) ⊎ IsIn n ms)
 put_in-IsIn n k [] = ((λ h. h), (λ h. h))
-put_in-IsIn n k (m ∷ ms) = ⊎_elim
-    (λ (e : k ≡ m). subst (λ ks. IsIn n ks ↔ ((n ≡ k) ⊎ IsIn n (m ∷ ms))) (sym (put_in-same k m ms e))
-    ((λ h. inr h), (λ h. ⊎_elim (λ (is : n ≡ k). inl (is ∙ e)) (λ (there : IsIn n (m ∷ ms)). there) h)))
-    (λ (o : (k < m) ⊎ (m < k)). ⊎_elim
-    (λ (below : k < m). subst (λ ks. IsIn n ks ↔ ((n ≡ k) ⊎ IsIn n (m ∷ ms))) (sym (put_in-below k m ms below)) ((λ h. h), (λ h. h)))
-    (λ (above : m < k). subst (λ ks. IsIn n ks ↔ ((n ≡ k) ⊎ IsIn n (m ∷ ms))) (sym (put_in-above k m ms above)) (
-      (λ h. ⊎_elim {C = (n ≡ k) ⊎ IsIn n (m ∷ ms)} (λ (is : n ≡ m). inr (inl is))
-          (λ (there : IsIn n (put_in k ms)). ⊎_elim {C = (n ≡ k) ⊎ IsIn n (m ∷ ms)} (λ (is : n ≡ k). inl is) (λ (rest : IsIn n ms). inr (inr rest)) ((put_in-IsIn n k ms).0 there)) h),
-      (λ h. ⊎_elim {C = IsIn n (m ∷ put_in k ms)} (λ (is : n ≡ k). inr ((put_in-IsIn n k ms).1 (inl is)))
-          (λ (rest : IsIn n (m ∷ ms)). ⊎_elim {C = IsIn n (m ∷ put_in k ms)} (λ (is : n ≡ m). inl is) (λ (there : IsIn n ms). inr ((put_in-IsIn n k ms).1 (inr there))) rest) h),
+put_in-IsIn n k (m ∷ ms) = put_in_cases (λ ks. IsIn n ks ↔ ((n ≡ k) ⊎ IsIn n (m ∷ ms))) k m ms
+    (λ same. (λ h. inr h, λ h. elim h [ inl is ↦ inl (is ∙ same) | inr there ↦ there ]))
+    (λ below. (λ h. h, λ h. h))
+    (λ above. let rest = put_in-IsIn n k ms in (
+      λ h. elim h [ inl is ↦ inr (inl is) | inr there ↦ elim (rest.0 there) [ inl is ↦ inl is | inr more ↦ inr (inr more) ] ],
+      λ h. elim h [ inl is ↦ inr (rest.1 (inl is)) | inr there ↦ elim there [ inl is ↦ inl is | inr more ↦ inr (rest.1 (inr more)) ] ],
     ))
-    o)
-    (cases_order k m)
 
 -- the rising numbers of a list are its numbers
 pub rising-IsIn : (n : ℕ) (ns : List ℕ) → IsIn n (rising ns) ↔ IsIn n ns

@@ -1,6 +1,6 @@
 -- Sums over transactions, when the events of one change.
 use Rattle.std.{proofs.Common.{◌≡◌, ℕ, ◌+◌, Bool, true, false, cond, not, ◌&&◌, ◌||◌, List, [], ◌∷◌, refl, sym, ap, subst, ◌∙◌, bytes_eq, arith}, specs.List.{filter, list_any, sum_by}, proofs.Math.Path.fun_ext, proofs.lemmas.List.Sums.sum_by-cons, proofs.lemmas.Slice.Eq.bytes_eq-Decides}
-use Rattle.ledger_model.{specs.Content.distinct, proofs.Transactions.filter_twice}
+use Rattle.ledger_model.{specs.Content.distinct, proofs.SumLemmas.{passed_sum, sum_by-none, sum_by-plus, sum_by-same, taken}}
 
 -- The texts other than one.
 abbrev pub others : List ℕ → List (List ℕ) → List (List ℕ)
@@ -15,51 +15,33 @@ pub one_text : (t x : List ℕ) → bytes_eq t x ≡ true → t ≡ x
 one_text t x = (bytes_eq-Decides t x).0
 
 -- A sum over texts: at each place of one text, and over the others.
-sum_parts : (g : List ℕ → ℕ) (t : List ℕ) (ys : List (List ℕ)) → sum_by g ys ≡ sum_by (λ y. cond (bytes_eq t y) (g t) 0) ys + sum_by g (others t ys)
-sum_parts g t [] = refl
-sum_parts g t (y ∷ ys) =
-    let rest : sum_by g ys ≡ sum_by (λ y. cond (bytes_eq t y) (g t) 0) ys + sum_by g (others t ys) = sum_parts g t ys in
-    let whole = sum_by-cons g y ys in let at = sum_by-cons (λ y. cond (bytes_eq t y) (g t) 0) y ys in
-    at_or_else (bytes_eq t y) refl rest whole at
+sum_parts : (g : List ℕ → ℕ) (t : List ℕ) (ys : List (List ℕ)) → sum_by g ys ≡ sum_by (λ y. taken (bytes_eq t y) (g t)) ys + sum_by g (others t ys)
+sum_parts g t ys =
+    let each = sum_by-same g (λ y. taken (bytes_eq t y) (g t) + taken (not (bytes_eq t y)) (g y)) (λ y. at_or_else y (bytes_eq t y) (one_text t y)) ys in
+    omega (arith, each, sum_by-plus (λ y. taken (bytes_eq t y) (g t)) (λ y. taken (not (bytes_eq t y)) (g y)) ys, passed_sum g (λ y. not (bytes_eq t y)) ys)
   where
-    at_or_else : (b : Bool) → bytes_eq t y ≡ b → sum_by g ys ≡ sum_by (λ y. cond (bytes_eq t y) (g t) 0) ys + sum_by g (others t ys)
-        → sum_by g (y ∷ ys) ≡ g y + sum_by g ys
-        → sum_by (λ y. cond (bytes_eq t y) (g t) 0) (y ∷ ys) ≡ cond (bytes_eq t y) (g t) 0 + sum_by (λ y. cond (bytes_eq t y) (g t) 0) ys
-        → sum_by g (y ∷ ys) ≡ sum_by (λ y. cond (bytes_eq t y) (g t) 0) (y ∷ ys) + sum_by g (others t (y ∷ ys))
-    at_or_else true is rest whole at =
-        let here : cond (bytes_eq t y) (g t) 0 ≡ g t = ap (λ b. cond b (g t) 0) is in let same : g t ≡ g y = ap g (one_text t y is) in
-        let left : sum_by g (others t (y ∷ ys)) ≡ sum_by g (others t ys) = ap (λ b. sum_by g (cond (not b) (y ∷ others t ys) (others t ys))) is in
-        omega (arith, rest, whole, at, here, same, left)
-    at_or_else false is rest whole at =
-        let here : cond (bytes_eq t y) (g t) 0 ≡ 0 = ap (λ b. cond b (g t) 0) is in
-        let left : sum_by g (others t (y ∷ ys)) ≡ g y + sum_by g (others t ys) = ap (λ b. sum_by g (cond (not b) (y ∷ others t ys) (others t ys))) is ∙ sum_by-cons g y (others t ys) in
-        omega (arith, rest, whole, at, here, left)
+    at_or_else : (y : List ℕ) (b : Bool) → (b ≡ true → t ≡ y) → g y ≡ taken b (g t) + taken (not b) (g y)
+    at_or_else y true same = ap g (sym (same refl)) ∙ omega arith
+    at_or_else y false same = omega arith
 
 -- A text is not among the others.
-none_among_others : (c : ℕ) (t : List ℕ) (ys : List (List ℕ)) → sum_by (λ y. cond (bytes_eq t y) c 0) (others t ys) ≡ 0
-none_among_others c t [] = refl
-none_among_others c t (y ∷ ys) =
-    (elim (bytes_eq t y) as (λ b. bytes_eq t y ≡ b → sum_by (λ y. cond (bytes_eq t y) c 0) (cond (not b) (y ∷ others t ys) (others t ys)) ≡ 0) [
-      | true ↦ λ e. none_among_others c t ys
-      | false ↦ λ e. let rest = none_among_others c t ys in let here : cond (bytes_eq t y) c 0 ≡ 0 = ap (λ b. cond b c 0) e in
-          sum_by-cons (λ y. cond (bytes_eq t y) c 0) y (others t ys) ∙ ap (λ n. n + sum_by (λ y. cond (bytes_eq t y) c 0) (others t ys)) here ∙ ap (λ n. 0 + n) rest
-    ]) refl
+none_among_others : (c : ℕ) (t : List ℕ) (ys : List (List ℕ)) → sum_by (λ y. taken (bytes_eq t y) c) (others t ys) ≡ 0
+none_among_others c t ys = passed_sum _ _ ys ∙ sum_by-same _ (λ y. 0) (λ y. neither (bytes_eq t y)) ys ∙ sum_by-none ys
+  where
+    neither : (b : Bool) → taken (not b) (taken b c) ≡ 0
+    neither true = refl
+    neither false = refl
 
 -- Leaving out another text takes nothing from it.
-another_left_out : (c : ℕ) (t x : List ℕ) → bytes_eq t x ≡ false → (ys : List (List ℕ)) → sum_by (λ y. cond (bytes_eq t y) c 0) (others x ys) ≡ sum_by (λ y. cond (bytes_eq t y) c 0) ys
-another_left_out c t x apart [] = refl
-another_left_out c t x apart (y ∷ ys) =
-    let rest = another_left_out c t x apart ys in let whole = sum_by-cons (λ y. cond (bytes_eq t y) c 0) y ys in
-    (elim (bytes_eq x y) as (λ b. bytes_eq x y ≡ b → sum_by (λ y. cond (bytes_eq t y) c 0) (cond (not b) (y ∷ others x ys) (others x ys)) ≡ sum_by (λ y. cond (bytes_eq t y) c 0) (y ∷ ys)) [
-      | true ↦ λ e.
-          let here : cond (bytes_eq t y) c 0 ≡ 0 = ap (λ b. cond b c 0) (subst (λ z. bytes_eq t z ≡ false) (one_text x y e) apart) in
-          rest ∙ sym (whole ∙ ap (λ n. n + sum_by (λ y. cond (bytes_eq t y) c 0) ys) here
-          ∙ (let z : 0 + sum_by (λ y. cond (bytes_eq t y) c 0) ys ≡ sum_by (λ y. cond (bytes_eq t y) c 0) ys = omega arith in z))
-      | false ↦ λ e. sum_by-cons (λ y. cond (bytes_eq t y) c 0) y (others x ys) ∙ ap (λ n. cond (bytes_eq t y) c 0 + n) rest ∙ sym whole
-    ]) refl
+another_left_out : (c : ℕ) (t x : List ℕ) → bytes_eq t x ≡ false → (ys : List (List ℕ)) → sum_by (λ y. taken (bytes_eq t y) c) (others x ys) ≡ sum_by (λ y. taken (bytes_eq t y) c) ys
+another_left_out c t x apart ys = passed_sum _ _ ys ∙ sum_by-same _ _ (λ y. stays y (bytes_eq x y) (one_text x y)) ys
+  where
+    stays : (y : List ℕ) (b : Bool) → (b ≡ true → x ≡ y) → taken (not b) (taken (bytes_eq t y) c) ≡ taken (bytes_eq t y) c
+    stays y true same = ap (λ b. taken b c) (sym apart ∙ ap (bytes_eq t) (same refl))
+    stays y false same = refl
 
 -- A text occurs once among distinct ones, where it is at all.
-once : (c : ℕ) (t : List ℕ) (xs : List (List ℕ)) → sum_by (λ y. cond (bytes_eq t y) c 0) (distinct xs) ≡ cond (list_any (bytes_eq t) xs) c 0
+pub once : (c : ℕ) (t : List ℕ) (xs : List (List ℕ)) → sum_by (λ y. cond (bytes_eq t y) c 0) (distinct xs) ≡ cond (list_any (bytes_eq t) xs) c 0
 once c t [] = refl
 once c t (x ∷ xs) =
     let whole = sum_by-cons (λ y. cond (bytes_eq t y) c 0) x (others x (distinct xs)) in
@@ -69,22 +51,27 @@ once c t (x ∷ xs) =
       | false ↦ λ e. let rest = another_left_out c t x e (distinct xs) ∙ once c t xs in omega (arith, rest)
     ]) refl
 
+-- Two tests, one after the other, are one test.
+pub filter_twice : {X : Type 0} (p q : X → Bool) (xs : List X) → filter p (filter q xs) ≡ filter (λ x. q x && p x) xs
+filter_twice p q [] = refl
+filter_twice p q (x ∷ xs) = elim (q x) as (λ b. filter p (cond b (x ∷ filter q xs) (filter q xs)) ≡ cond (b && p x) (x ∷ filter (λ y. q y && p y) xs) (filter (λ y. q y && p y) xs)) [
+  | true ↦ ap (λ l. cond (p x) (x ∷ l) l) (filter_twice p q xs)
+  | false ↦ filter_twice p q xs
+]
+
 and_turned : (a b : Bool) → (a && b) ≡ (b && a)
 and_turned true true = refl
 and_turned true false = refl
 and_turned false true = refl
 and_turned false false = refl
 
+-- Two tests, in either order.
+pub filter_turned : {X : Type 0} (p q : X → Bool) (xs : List X) → filter p (filter q xs) ≡ filter q (filter p xs)
+filter_turned p q xs = filter_twice p q xs ∙ ap (λ r. filter r xs) (fun_ext (λ x. and_turned (q x) (p x))) ∙ sym (filter_twice q p xs)
+
 and_twice : (a : Bool) → (a && a) ≡ a
 and_twice true = refl
 and_twice false = refl
-
--- Two texts are left out in either order.
-others_turned : (t x : List ℕ) (ys : List (List ℕ)) → others t (others x ys) ≡ others x (others t ys)
-others_turned t x ys =
-    filter_twice (λ y. not (bytes_eq t y)) (λ y. not (bytes_eq x y)) ys
-    ∙ ap (λ p. filter p ys) (fun_ext (λ y. and_turned (not (bytes_eq x y)) (not (bytes_eq t y))))
-    ∙ sym (filter_twice (λ y. not (bytes_eq x y)) (λ y. not (bytes_eq t y)) ys)
 
 -- A text is left out once.
 others_again : (t : List ℕ) (ys : List (List ℕ)) → others t (others t ys) ≡ others t ys
@@ -98,21 +85,19 @@ others_distinct t (x ∷ xs) =
     (elim (bytes_eq t x) as (λ b. bytes_eq t x ≡ b
     → cond (not b) (x ∷ others t (others x (distinct xs))) (others t (others x (distinct xs))) ≡ distinct (cond (not b) (x ∷ others t xs) (others t xs))) [
       | true ↦ λ e. ap (λ z. others t (others z (distinct xs))) (sym (one_text t x e)) ∙ others_again t (distinct xs) ∙ rest
-      | false ↦ λ e. ap (λ ys. x ∷ ys) (others_turned t x (distinct xs) ∙ ap (others x) rest)
+      | false ↦ λ e. ap (λ ys. x ∷ ys) (filter_turned (λ y. not (bytes_eq t y)) (λ y. not (bytes_eq x y)) (distinct xs) ∙ ap (others x) rest)
     ]) refl
 
 -- Measures that agree on other texts add up the same over them.
 others_agree : (g h : List ℕ → ℕ) (t : List ℕ) → ((u : List ℕ) → bytes_eq t u ≡ false → h u ≡ g u) → (ys : List (List ℕ)) → sum_by h (others t ys) ≡ sum_by g (others t ys)
-others_agree g h t same [] = refl
-others_agree g h t same (y ∷ ys) =
-    let rest = others_agree g h t same ys in
-    (elim (bytes_eq t y) as (λ b. bytes_eq t y ≡ b → sum_by h (cond (not b) (y ∷ others t ys) (others t ys)) ≡ sum_by g (cond (not b) (y ∷ others t ys) (others t ys))) [
-      | true ↦ λ e. rest
-      | false ↦ λ e. sum_by-cons h y (others t ys) ∙ ap (λ n. n + sum_by h (others t ys)) (same y e) ∙ ap (λ n. g y + n) rest ∙ sym (sum_by-cons g y (others t ys))
-    ]) refl
+others_agree g h t same ys = passed_sum h _ ys ∙ sum_by-same _ _ (λ y. agree y (bytes_eq t y) refl) ys ∙ sym (passed_sum g _ ys)
+  where
+    agree : (y : List ℕ) (b : Bool) → bytes_eq t y ≡ b → taken (not b) (h y) ≡ taken (not b) (g y)
+    agree y true is = refl
+    agree y false is = same y is
 
 -- A sum over distinct texts: for one text, where it is, and over the others.
-sum_with_one : (g : List ℕ → ℕ) (t : List ℕ) (xs : List (List ℕ)) → sum_by g (distinct xs) ≡ cond (list_any (bytes_eq t) xs) (g t) 0 + sum_by g (others t (distinct xs))
+pub sum_with_one : (g : List ℕ → ℕ) (t : List ℕ) (xs : List (List ℕ)) → sum_by g (distinct xs) ≡ cond (list_any (bytes_eq t) xs) (g t) 0 + sum_by g (others t (distinct xs))
 sum_with_one g t xs = sum_parts g t (distinct xs) ∙ ap (λ n. n + sum_by g (others t (distinct xs))) (once (g t) t xs)
 
 -- A text that is not there counts nothing.

@@ -1,31 +1,24 @@
 -- The transactions of a station, each listed once, and in the order of their ids where the events are in the order of
 -- their keys.
-use Rattle.std.{proofs.Common.{◌≡◌, ◌⊎◌, Bool, true, false, cond, not, ◌||◌, T, List, [], ◌∷◌, ℕ, refl, ap, sym, ◌∙◌, subst, ⊎_elim, inl, inr, map}, specs.Prelude.filter, specs.List.{list_any, AllByRecursion}, specs.List.Sorted.IsStrictlySortedBy, specs.Str.bytes_eq, specs.Ordering.{nat_cmp, ordering_then, is_lt}, specs.declared.cmp.Ordering.TheVariants.{Less, Equal, Greater}, specs.Cmp.Lexicographic.slice_cmp, specs.FinMap.{entries_sorted, slice_cmp-IsAntisymmetric, nat_cmp-IsAntisymmetric}, specs.FinMap.Entries.below_all, proofs.lemmas.Bool.true≢false, proofs.lemmas.List.Kept.IsStrictlySortedBy-filter, proofs.lemmas.Slice.Eq.bytes_eq-Decides}
-use Rattle.ledger_model.{specs.Key.{KeyName, key_cmp}, specs.Content.{Content, Entry, entries, live, distinct, transactions_of, has_transaction}, specs.Entries.IsRising, proofs.Rising.{first, second, live_rising}}
+use Rattle.std.{proofs.Common.{arith, ◌≡◌, ◌⊎◌, Bool, true, false, cond, not, ◌||◌, T, List, [], ◌∷◌, ℕ, refl, ap, sym, ◌∙◌, inl, inr, map}, specs.Prelude.{filter, count_by, nat_lt, ◌+◌}, specs.List.{list_any, AllByRecursion}, specs.List.Sorted.IsStrictlySortedBy, specs.Str.bytes_eq, specs.Ordering.{nat_cmp, ordering_then, is_lt}, specs.declared.cmp.Ordering.TheVariants.{Less, Equal, Greater}, specs.Cmp.Lexicographic.slice_cmp, specs.FinMap.{entries_sorted, slice_cmp-IsAntisymmetric, nat_cmp-IsAntisymmetric}, specs.FinMap.Entries.below_all, proofs.lemmas.Bool.{cond_both, false≢true, lt-ltb}, proofs.lemmas.List.Elements.{All-filter, All-from_recursion, recursion_from_All}, proofs.lemmas.List.Kept.IsStrictlySortedBy-filter, proofs.lemmas.List.Sums.sum_by-cons, proofs.lemmas.Slice.Eq.bytes_eq-Decides}
+use Rattle.ledger_model.{specs.Key.{KeyName, key_cmp}, specs.Content.{Content, Entry, entries, live, distinct, transactions_of, has_transaction}, specs.Entries.IsRising, proofs.Rising.{first, second, live_rising}, proofs.SumsByTransaction.once}
+pub use Rattle.ledger_model.proofs.Transactions.{any-map}
 
--- leaving out one text loses no other
-others_stay : (x tx : List ℕ) → bytes_eq tx x ≡ false → (ys : List (List ℕ)) → list_any (bytes_eq tx) (filter (λ y. not (bytes_eq x y)) ys) ≡ list_any (bytes_eq tx) ys
-others_stay x tx apart [] = refl
-others_stay x tx apart (y ∷ ys) =
-    (elim (bytes_eq x y) as (λ b. bytes_eq x y ≡ b
-    → list_any (bytes_eq tx) (cond (not b) (y ∷ filter (λ z. not (bytes_eq x z)) ys) (filter (λ z. not (bytes_eq x z)) ys)) ≡ (bytes_eq tx y || list_any (bytes_eq tx) ys)) [
-      | true ↦ λ e.
-          let same : x ≡ y = (bytes_eq-Decides x y).0 e in
-          others_stay x tx apart ys ∙ sym (ap (λ b. b || list_any (bytes_eq tx) ys) (subst (λ t. bytes_eq tx t ≡ false) same apart))
-      | false ↦ λ e. ap (λ b. bytes_eq tx y || b) (others_stay x tx apart ys)
-    ]) refl
+-- a text is in a list exactly if it is there some times
+any_counted : (p : List ℕ → Bool) (xs : List (List ℕ)) → list_any p xs ≡ nat_lt 0 (count_by p xs)
+any_counted p [] = refl
+any_counted p (x ∷ xs) = ap (λ b. p x || b) (any_counted p xs) ∙ by_case (p x) ∙ ap (nat_lt 0) (sym (sum_by-cons (λ y. cond (p y) 1 0) x xs))
+  where
+    by_case : (b : Bool) → (b || nat_lt 0 (count_by p xs)) ≡ nat_lt 0 (cond b 1 0 + count_by p xs)
+    by_case true = sym (lt-ltb 0 (1 + count_by p xs) (omega arith))
+    by_case false = ap (nat_lt 0) (omega arith)
 
 distinct-any : (tx : List ℕ) (xs : List (List ℕ)) → list_any (bytes_eq tx) (distinct xs) ≡ list_any (bytes_eq tx) xs
-distinct-any tx [] = refl
-distinct-any tx (x ∷ xs) =
-    (elim (bytes_eq tx x) as (λ b. bytes_eq tx x ≡ b → (b || list_any (bytes_eq tx) (filter (λ y. not (bytes_eq x y)) (distinct xs))) ≡ (b || list_any (bytes_eq tx) xs)) [
-      | true ↦ λ e. refl
-      | false ↦ λ e. others_stay x tx e (distinct xs) ∙ distinct-any tx xs
-    ]) refl
-
-pub any-map : (tx : List ℕ) (es : List Entry) → list_any (bytes_eq tx) (map (λ e. e.0.tx) es) ≡ has_transaction tx es
-any-map tx [] = refl
-any-map tx (e ∷ es) = ap (λ b. bytes_eq tx e.0.tx || b) (any-map tx es)
+distinct-any tx xs = any_counted (bytes_eq tx) (distinct xs) ∙ ap (nat_lt 0) (once 1 tx xs) ∙ by_case (list_any (bytes_eq tx) xs)
+  where
+    by_case : (b : Bool) → nat_lt 0 (cond b 1 0) ≡ b
+    by_case true = refl
+    by_case false = refl
 
 -- a transaction is listed exactly if it has an event
 pub transactions-any : (tx : List ℕ) (es : List Entry) → list_any (bytes_eq tx) (transactions_of es) ≡ has_transaction tx es
@@ -50,24 +43,18 @@ texts_after key (e ∷ es) h = (
   texts_after key es (second _ _ h),
 )
 
-all_filter : (P : List ℕ → Type 0) (p : List ℕ → Bool) (xs : List (List ℕ)) → AllByRecursion P xs → AllByRecursion P (filter p xs)
-all_filter P p [] h = tt
-all_filter P p (x ∷ xs) h =
-    elim (p x) as (λ b. AllByRecursion P (cond b (x ∷ filter p xs) (filter p xs))) [ true ↦ (h.0, all_filter P p xs h.1) | false ↦ all_filter P p xs h.1 ]
-
 all_distinct : (P : List ℕ → Type 0) (xs : List (List ℕ)) → AllByRecursion P xs → AllByRecursion P (distinct xs)
 all_distinct P [] h = tt
-all_distinct P (x ∷ xs) h = (h.0, all_filter P (λ y. not (bytes_eq x y)) (distinct xs) (all_distinct P xs h.1))
+all_distinct P (x ∷ xs) h =
+    let rest = All-from_recursion P (distinct xs) (all_distinct P xs h.1) in
+    (h.0, recursion_from_All P (filter (λ y. not (bytes_eq x y)) (distinct xs)) (All-filter (λ y. not (bytes_eq x y)) P (distinct xs) rest))
 
 -- without the text itself, all come after it
 all_less : (x : List ℕ) (ys : List (List ℕ)) → AllByRecursion (NotAfter x) ys → AllByRecursion (λ y. slice_cmp nat_cmp x y ≡ Less) (filter (λ y. not (bytes_eq x y)) ys)
 all_less x [] h = tt
-all_less x (y ∷ ys) h =
-    (elim (bytes_eq x y) as (λ b. bytes_eq x y ≡ b
-    → AllByRecursion (λ z. slice_cmp nat_cmp x z ≡ Less) (cond (not b) (y ∷ filter (λ z. not (bytes_eq x z)) ys) (filter (λ z. not (bytes_eq x z)) ys))) [
-      | true ↦ λ e. all_less x ys h.1
-      | false ↦ λ e. (⊎_elim (λ (less : slice_cmp nat_cmp x y ≡ Less). less) (λ (same : x ≡ y). absurd (true≢false (sym ((bytes_eq-Decides x y).1 same) ∙ e))) h.0, all_less x ys h.1)
-    ]) refl
+all_less x (y ∷ ys) h = cond_both (not (bytes_eq x y)) _ _ (AllByRecursion (λ z. slice_cmp nat_cmp x z ≡ Less))
+    (λ apart. (elim h.0 [ inl less ↦ less | inr same ↦ absurd (false≢true (ap not (sym ((bytes_eq-Decides x y).1 same)) ∙ apart)) ], all_less x ys h.1))
+    (λ same. all_less x ys h.1)
 
 rising_texts : (es : List Entry) → IsRising es → IsStrictlySortedBy (slice_cmp nat_cmp) (transactions_of es)
 unfolding IsStrictlySortedBy

@@ -1,110 +1,63 @@
--- How many transactions there are when one entry is added.
-use Rattle.std.{proofs.Common.{◌≡◌, ℕ, ◌+◌, Bool, true, false, cond, not, ◌&&◌, ◌||◌, List, [], ◌∷◌, ◌++◌, length, map, filter, refl, ap, sym, ◌∙◌, bytes_eq, arith}, specs.List.list_any, proofs.lemmas.Cmp.nat_list_eq_equiv, proofs.lemmas.Slice.Eq.bytes_eq-Decides}
-use Rattle.ledger_model.specs.Content.{distinct, transactions_of, has_transaction, Entry}
+-- How many transactions there are when one entry is added, and when some are left out.
+use Rattle.std.{proofs.Common.{◌≡◌, ℕ, ◌+◌, ◌≤◌, Bool, true, false, cond, not, ◌||◌, List, [], ◌∷◌, ◌++◌, length, map, filter, refl, ap, sym, ◌∙◌, bytes_eq, arith}, specs.List.{list_any, sum_by}, proofs.lemmas.Bool.or_right, proofs.lemmas.List.Folds.list_any-append, proofs.lemmas.List.Sums.sum_by-cons}
+use Rattle.ledger_model.{specs.Content.{distinct, transactions_of, has_transaction, Entry}, proofs.SumLemmas.{passed_sum, sum_by-const, taken}, proofs.SumsByTransaction.{counts_differ_by_one, others, same_text, sum_with_one}}
 
--- how many distinct texts pass a test
-abbrev pub how_many : (List ℕ → Bool) → List (List ℕ) → ℕ
-how_many p [] = 0
-how_many p (x ∷ xs) = cond (p x) 1 0 + how_many (λ y. not (bytes_eq x y) && p y) xs
+-- The ids of events' transactions.
+abbrev pub ids : List Entry → List (List ℕ)
+ids es = map (λ e. e.0.tx) es
 
-kept : (p : List ℕ → Bool) (x : List ℕ) (b : Bool) (ys zs : List (List ℕ)) → filter p ys ≡ zs → filter p (cond b (x ∷ ys) ys) ≡ cond (b && p x) (x ∷ zs) zs
-kept p x true ys zs h = ap (λ rest. cond (p x) (x ∷ rest) rest) h
-kept p x false ys zs h = h
+pub any-map : (tx : List ℕ) (es : List Entry) → list_any (bytes_eq tx) (ids es) ≡ has_transaction tx es
+any-map tx [] = refl
+any-map tx (e ∷ es) = ap (λ b. bytes_eq tx e.0.tx || b) (any-map tx es)
 
-pub filter_twice : (p q : List ℕ → Bool) (xs : List (List ℕ)) → filter p (filter q xs) ≡ filter (λ y. q y && p y) xs
-filter_twice p q [] = refl
-filter_twice p q (x ∷ xs) = kept p x (q x) (filter q xs) _ (filter_twice p q xs)
+-- The ids of other transactions, with an event of this one among others.
+pub others_ids : (e : Entry) (front back : List Entry) → others e.0.tx (ids (front ++ back)) ≡ others e.0.tx (ids (front ++ e ∷ back))
+others_ids e [] back = sym (ap (λ b. cond (not b) (e.0.tx ∷ others e.0.tx (ids back)) (others e.0.tx (ids back))) (same_text e.0.tx))
+others_ids e (x ∷ front) back = ap (λ ts. cond (not (bytes_eq e.0.tx x.0.tx)) (x.0.tx ∷ ts) ts) (others_ids e front back)
 
-length_more : (b : Bool) (x : List ℕ) (ys : List (List ℕ)) → length (cond b (x ∷ ys) ys) ≡ cond b 1 0 + length ys
-length_more true x ys = omega arith
-length_more false x ys = omega arith
-
-counted_by : (p : List ℕ → Bool) (xs : List (List ℕ)) → length (filter p (distinct xs)) ≡ how_many p xs
-counted_by p [] = refl
-counted_by p (x ∷ xs) =
-    length_more (p x) x (filter p (filter (λ y. not (bytes_eq x y)) (distinct xs)))
-    ∙ ap (λ n. cond (p x) 1 0 + n) (ap length (filter_twice p (λ y. not (bytes_eq x y)) (distinct xs)) ∙ counted_by (λ y. not (bytes_eq x y) && p y) xs)
-
-pub all_pass : (xs : List (List ℕ)) → filter (λ _. true) xs ≡ xs
-all_pass [] = refl
-all_pass (x ∷ xs) = ap (λ ys. x ∷ ys) (all_pass xs)
-
--- how many distinct texts there are
-pub counted : (xs : List (List ℕ)) → length (distinct xs) ≡ how_many (λ _. true) xs
-counted xs = ap length (sym (all_pass (distinct xs))) ∙ counted_by (λ _. true) xs
-
-none : (b : Bool) → 0 ≡ cond (b && false) 1 0 + 0
-none true = refl
-none false = refl
-
-and_swap : (a b c : Bool) → (a && (b && c)) ≡ (b && (a && c))
-and_swap true b c = refl
-and_swap false true c = refl
-and_swap false false c = refl
-
-split_case : (d pt px a : Bool) (n : ℕ) → (d ≡ true → px ≡ pt) → cond px 1 0 + (cond ((not d && pt) && a) 1 0 + n) ≡ cond (pt && (d || a)) 1 0 + (cond (not d && px) 1 0 + n)
-split_case true true px a n h = ap (λ b. cond b 1 0 + (0 + n)) (h refl)
-split_case true false px a n h = ap (λ b. cond b 1 0 + (0 + n)) (h refl)
-split_case false true px true n h = omega arith
-split_case false true px false n h = omega arith
-split_case false false px a n h = omega arith
-
-same_text : (t x : List ℕ) → bytes_eq t x ≡ true → t ≡ x
-same_text t x = (bytes_eq-Decides t x).0
-
--- one text is counted where it is, and the others without it
-pub split_by : (t : List ℕ) (p : List ℕ → Bool) (xs : List (List ℕ)) → how_many p xs ≡ cond (p t && list_any (bytes_eq t) xs) 1 0 + how_many (λ y. not (bytes_eq t y) && p y) xs
-split_by t p [] = none (p t)
-split_by t p (x ∷ xs) =
-    let a = list_any (bytes_eq t) xs in
-    ap (λ n. cond (p x) 1 0 + n) (split_by t (λ y. not (bytes_eq x y) && p y) xs)
-    ∙ (λ i. cond (p x) 1 0 + (cond ((not (nat_list_eq_equiv.symm x t i) && p t) && a) 1 0 + how_many (λ y. and_swap (not (bytes_eq t y)) (not (bytes_eq x y)) (p y) i) xs))
-    ∙ split_case (bytes_eq t x) (p t) (p x) a _ (λ e. ap p (sym (same_text t x e)))
-
-first_case : (pt a : Bool) (n m : ℕ) → m ≡ cond (pt && a) 1 0 + n → cond pt 1 0 + n ≡ cond (pt && not a) 1 0 + m
-first_case true true n m h = omega arith
-first_case true false n m h = omega arith
-first_case false a n m h = omega arith
-
-later_case : (d pt a px : Bool) (n : ℕ) → cond px 1 0 + (cond ((not d && pt) && not a) 1 0 + n) ≡ cond (pt && not (d || a)) 1 0 + (cond px 1 0 + n)
-later_case true true a px n = omega arith
-later_case true false a px n = omega arith
-later_case false true true px n = omega arith
-later_case false true false px n = omega arith
-later_case false false a px n = omega arith
-
--- a text more counts where it is new
-added : (t : List ℕ) (p : List ℕ → Bool) (xs ys : List (List ℕ)) → how_many p (xs ++ t ∷ ys) ≡ cond (p t && not (list_any (bytes_eq t) (xs ++ ys))) 1 0 + how_many p (xs ++ ys)
-added t p [] ys = first_case (p t) (list_any (bytes_eq t) ys) (how_many (λ y. not (bytes_eq t y) && p y) ys) (how_many p ys) (split_by t p ys)
-added t p (x ∷ xs) ys =
-    let a = list_any (bytes_eq t) (xs ++ ys) in
-    ap (λ n. cond (p x) 1 0 + n) (added t (λ y. not (bytes_eq x y) && p y) xs ys)
-    ∙ (λ i. cond (p x) 1 0 + (cond ((not (nat_list_eq_equiv.symm x t i) && p t) && not a) 1 0 + how_many (λ y. not (bytes_eq x y) && p y) (xs ++ ys)))
-    ∙ later_case (bytes_eq t x) (p t) a (p x) (how_many (λ y. not (bytes_eq x y) && p y) (xs ++ ys))
-
-one_or_none : (h : Bool) (n : ℕ) → cond (not h) 1 0 + n ≡ cond h n (n + 1)
-one_or_none true n = omega arith
-one_or_none false n = omega arith
-
-names-append : (es fs : List Entry) → map (λ (e : Entry). e.0.tx) (es ++ fs) ≡ map (λ (e : Entry). e.0.tx) es ++ map (λ (e : Entry). e.0.tx) fs
-names-append [] fs = refl
-names-append (e ∷ es) fs = ap (λ ns. e.0.tx ∷ ns) (names-append es fs)
-
-named : (t : List ℕ) (es : List Entry) → list_any (bytes_eq t) (map (λ (e : Entry). e.0.tx) es) ≡ has_transaction t es
-named t [] = refl
-named t (e ∷ es) = ap (λ b. bytes_eq t e.0.tx || b) (named t es)
+-- An event's transaction has an event.
+pub now_there : (e : Entry) (front back : List Entry) → has_transaction e.0.tx (front ++ e ∷ back) ≡ true
+now_there e front back =
+    list_any-append (λ (x : Entry). bytes_eq e.0.tx x.0.tx) front (e ∷ back)
+    ∙ ap (λ b. has_transaction e.0.tx front || (b || has_transaction e.0.tx back)) (same_text e.0.tx)
+    ∙ or_right (has_transaction e.0.tx front) true refl
 
 -- an entry more is a transaction more where its transaction is new
 pub transactions_added : (es fs : List Entry) (e : Entry)
     → length (transactions_of (es ++ e ∷ fs)) ≡ cond (has_transaction e.0.tx (es ++ fs)) (length (transactions_of (es ++ fs))) (length (transactions_of (es ++ fs)) + 1)
 transactions_added es fs e =
-    let xs = map (λ (e : Entry). e.0.tx) es in
-    let ys = map (λ (e : Entry). e.0.tx) fs in
-    let more : length (distinct (xs ++ e.0.tx ∷ ys)) ≡ cond (list_any (bytes_eq e.0.tx) (xs ++ ys)) (length (distinct (xs ++ ys))) (length (distinct (xs ++ ys)) + 1) =
-    counted (xs ++ e.0.tx ∷ ys) ∙ added e.0.tx (λ _. true) xs ys
-    ∙ ap (λ n. cond (not (list_any (bytes_eq e.0.tx) (xs ++ ys))) 1 0 + n) (sym (counted (xs ++ ys)))
-    ∙ one_or_none (list_any (bytes_eq e.0.tx) (xs ++ ys)) (length (distinct (xs ++ ys))) in
-    ap (λ ns. length (distinct ns)) (names-append es (e ∷ fs))
-    ∙ more
-    ∙ (λ i. let ns = sym (names-append es fs) i in cond (list_any (bytes_eq e.0.tx) ns) (length (distinct ns)) (length (distinct ns) + 1))
-    ∙ ap (λ b. cond b (length (transactions_of (es ++ fs))) (length (transactions_of (es ++ fs)) + 1)) (named e.0.tx (es ++ fs))
+    let all = counts_differ_by_one (λ t. 1) (λ t. 1) e.0.tx (ids (es ++ fs)) (ids (es ++ e ∷ fs)) (others_ids e es fs) (λ u apart. refl) in
+    let was = ap (λ b. taken b 1) (any-map e.0.tx (es ++ fs)) in
+    let is = ap (λ b. taken b 1) (any-map e.0.tx (es ++ e ∷ fs) ∙ now_there e es fs) in
+    by_case (length (transactions_of (es ++ fs))) (has_transaction e.0.tx (es ++ fs))
+    (omega (arith, all, was, is, sum_by-const 1 (transactions_of (es ++ fs)), sum_by-const 1 (transactions_of (es ++ e ∷ fs))))
+  where
+    by_case : {m : ℕ} (n : ℕ) (b : Bool) → m + taken b 1 ≡ n + 1 → m ≡ cond b n (n + 1)
+    by_case n true h = omega arith
+    by_case n false h = omega arith
+
+-- the distinct texts that entries name have no less of a sum than those that some of these name
+fewer_texts : (g : List ℕ → ℕ) (q : Entry → Bool) (es : List Entry) → sum_by g (transactions_of (filter q es)) ≤ sum_by g (transactions_of es)
+fewer_texts g q [] = omega arith
+fewer_texts g q (e ∷ es) =
+    let t = e.0.tx in
+    let others_measure : List ℕ → ℕ = λ y. taken (not (bytes_eq t y)) (g y) in
+    let rest = fewer_texts others_measure q es in
+    let all = sum_by-cons g t (others t (transactions_of es)) in
+    let some = sum_by-cons g t (others t (transactions_of (filter q es))) in
+    let parted = λ (xs : List (List ℕ)). passed_sum g (λ y. not (bytes_eq t y)) (distinct xs) in
+    by_case (q e) (omega (arith, rest, all, some, parted (ids es), parted (ids (filter q es))))
+    (omega (arith, rest, all, parted (ids es), parted (ids (filter q es)), sum_with_one g t (ids (filter q es)), at_most (list_any (bytes_eq t) (ids (filter q es))) (g t)))
+  where
+    by_case : (b : Bool) → sum_by g (transactions_of (e ∷ filter q es)) ≤ sum_by g (transactions_of (e ∷ es)) → sum_by g (transactions_of (filter q es)) ≤ sum_by g (transactions_of (e ∷ es))
+        → sum_by g (transactions_of (cond b (e ∷ filter q es) (filter q es))) ≤ sum_by g (transactions_of (e ∷ es))
+    by_case true kept left = kept
+    by_case false kept left = left
+
+    at_most : (b : Bool) (n : ℕ) → taken b n ≤ n
+    at_most true n = omega arith
+    at_most false n = omega arith
+
+-- fewer entries have no more transactions
+pub transactions-filter : (q : Entry → Bool) (es : List Entry) → length (transactions_of (filter q es)) ≤ length (transactions_of es)
+transactions-filter q es = omega (arith, fewer_texts (λ t. 1) q es, sum_by-const 1 (transactions_of (filter q es)), sum_by-const 1 (transactions_of es))

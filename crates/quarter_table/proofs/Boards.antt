@@ -1,12 +1,8 @@
 -- The rows of pairs of readings, and the periods of a board.
-use Rattle.std.{proofs.Common.{◌≡◌, ℕ, ◌+◌, ◌==◌, cond, List, [], ◌∷◌, ◌++◌, map, refl, sym, ap, subst, ◌∙◌, arith}, specs.List.{filter, flat_map, sum_by}, proofs.lemmas.List.map-append, proofs.lemmas.List.Elements.filter-append, proofs.lemmas.List.Sums.sum_by-append, proofs.Math.Path.fun_ext}
+use Rattle.std.{proofs.Common.{◌≡◌, ℕ, ◌+◌, ◌==◌, cond, List, [], ◌∷◌, ◌++◌, map, refl, sym, ap, subst, ◌∙◌, arith}, specs.List.{filter, flat_map, sum_by}, proofs.lemmas.List.map-append, proofs.lemmas.Simd.map-map, proofs.lemmas.List.Elements.filter-append, proofs.lemmas.List.Sums.sum_by-append, proofs.Math.Path.fun_ext}
 use Rattle.ledger_model.{specs.Periods.Periods, specs.declared.order.Order.Order, specs.declared.reading.Direction.Direction, specs.declared.reading.Direction.TheVariants.{Import, Export}, specs.Board.{Flowed, board_by}, specs.Content.Entry, specs.ByDirection.flows_toward, specs.declared.by_direction.ByDirection.ByDirection, specs.Energy.{Pair, all_pairs_by, change_of, difference, flows_in_by, parts_of_both, parts_over, quarters_by, rising}, specs.Parts.{Part, parts_by, whole}, specs.Settling.settled_by, specs.declared.settle.Settle.Settle, specs.declared.settle.Settle.TheVariants.{Later, Closing, Even}, proofs.Callers.{sum_by-map, passed_sum}, proofs.SumLemmas.sum_by-none}
 use Rattle.energy_flow.specs.Flow.{Energy}
 use Rattle.quarter_table.specs.Pairs.{total, row_of, rows_of, board_flows_by, flows_of, parts_toward, station_flows_by, line_of}
-
-map_map : {X Y Z : Type 0} (f : Y → Z) (g : X → Y) (xs : List X) → map f (map g xs) ≡ map (λ x. f (g x)) xs
-map_map f g [] = refl
-map_map f g (x ∷ xs) = ap (λ ys. f (g x) ∷ ys) (map_map f g xs)
 
 -- What the parts of a period in one direction add up to, by a measure of what they show.
 quarter_sum : (measure : ByDirection Energy → ℕ) (d : Direction) (q : ℕ) (ts : List Part)
@@ -51,15 +47,15 @@ quarter_flows order period es q =
 quarters_of : (order : Order) (period : Periods) (es : List Entry) → map (λ f. f.0) (board_flows_by order period es) ≡ map (λ t. t.0) (parts_of_both order period es)
 quarters_of order period es =
     map-append (λ (f : Flowed). f.0) (parts_toward Import (side order period Import es)) (parts_toward Export (side order period Export es))
-    ∙ (λ i. map_map (λ (f : Flowed). f.0) (λ (t : Part). line t.0 (flows_toward Import t.1)) (side order period Import es) i
-    ++ map_map (λ (f : Flowed). f.0) (λ (t : Part). line t.0 (flows_toward Export t.1)) (side order period Export es) i)
+    ∙ (λ i. map-map (λ (f : Flowed). f.0) (λ (t : Part). line t.0 (flows_toward Import t.1)) (side order period Import es) i
+    ++ map-map (λ (f : Flowed). f.0) (λ (t : Part). line t.0 (flows_toward Export t.1)) (side order period Export es) i)
     ∙ sym (map-append (λ (t : Part). t.0) (side order period Import es) (side order period Export es))
 
 -- The rows of a station's parts are the periods of its board.
 pub lines_of_station : (order : Order) (period : Periods) (es : List Entry) → map line_of (rows_of (board_flows_by order period es)) ≡ (board_by order period es).quarters
 lines_of_station order period es =
     let fs = board_flows_by order period es in
-    map_map line_of (λ q. row_of q fs) (rising (map (λ f. f.0) fs))
+    map-map line_of (λ q. row_of q fs) (rising (map (λ f. f.0) fs))
     ∙ ap (λ qs. map (λ q. line q (total (filter (λ f. f.0 == q) fs))) (rising qs)) (quarters_of order period es)
     ∙ ap (λ (l : ℕ → Flowed). map l (quarters_by order period es)) (fun_ext (λ q. ap (line q) (quarter_flows order period es q)))
 

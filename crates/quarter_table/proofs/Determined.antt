@@ -1,6 +1,6 @@
 -- Rows are determined by the row of each period.
-use Rattle.std.{proofs.Common.{◌≡◌, ◌≢◌, ℕ, ◌<◌, ◌≤◌, ◌⊎◌, ⊎_elim, List, [], ◌∷◌, ◌++◌, refl, sym, ap, ◌∙◌, arith, inl, inr}, proofs.lemmas.Bool.{cases_lt, cases_eq, cases_order}}
-use Rattle.quarter_table.{specs.declared.row.QuarterRow.QuarterRow, specs.Rows.{no_row, row_at, earlier, later, if_any, set_row, AreInOrder, HavePairs}, proofs.Orders.{earlier_on, earlier_past, later_on, later_past, row_here, row_other, after_less, after_missing}, proofs.Replaced.{some_row, none_row, AreBefore, earlier_before, later_after}}
+use Rattle.std.{proofs.Common.{Bool, false, cond, eqb, nat_lt, ◌≡◌, ◌≢◌, ℕ, ◌<◌, ◌≤◌, ◌⊎◌, ⊎_elim, List, [], ◌∷◌, ◌++◌, refl, sym, ap, ◌∙◌, arith, inl, inr}, specs.List.filter, proofs.lemmas.Bool.{cases_lt, cases_order, cond_both, ltb-false}}
+use Rattle.quarter_table.{specs.declared.row.QuarterRow.QuarterRow, specs.Rows.{no_row, row_at, earlier, later, if_any, set_row, AreInOrder, HavePairs}, proofs.Orders.{row_here, row_other, after_less, after_missing}, proofs.Replaced.{any_cases, AreBefore, earlier_before, later_after}}
 
 -- A row that has a pair is not that of a period without any.
 not_none : (r : QuarterRow) (q : ℕ) → 0 < r.pairs → r ≢ no_row q
@@ -42,57 +42,39 @@ skip_before q k (x ∷ xs) ys before le = row_other k x (xs ++ ys) (λ is. absur
 -- Rows that lack a period, put behind others, change nothing for it.
 skip_missing : (k : ℕ) (xs ys : List QuarterRow) → row_at k ys ≡ no_row k → row_at k (xs ++ ys) ≡ row_at k xs
 skip_missing k [] ys none = none
-skip_missing k (x ∷ xs) ys none = elim (cases_eq x.quarter k) [
-  | inl is ↦ row_here k x (xs ++ ys) is ∙ sym (row_here k x xs is)
-  | inr not ↦ row_other k x (xs ++ ys) not ∙ skip_missing k xs ys none ∙ sym (row_other k x xs not)
-]
+skip_missing k (x ∷ xs) ys none = ap (cond (eqb x.quarter k) x) (skip_missing k xs ys none)
+
+-- The row of a period is found among some of the rows, where it is not one of those left out.
+among : (p : QuarterRow → Bool) (k : ℕ) (r : QuarterRow) (rs : List QuarterRow) → row_at k (filter p rs) ≡ row_at k rs → (p r ≡ false → r.quarter ≡ k → ⊥) → row_at k (filter p (r ∷ rs)) ≡ row_at k (r ∷ rs)
+among p k r rs rest apart = cond_both (p r) _ _ (λ l. row_at k l ≡ row_at k (r ∷ rs)) (λ is. ap (cond (eqb r.quarter k) r) rest) (λ out. rest ∙ sym (row_other k r rs (apart out)))
 
 -- The row of an earlier period is found among the earlier ones.
 among_earlier : (q k : ℕ) (rs : List QuarterRow) → k < q → row_at k (earlier q rs) ≡ row_at k rs
 among_earlier q k [] lt = refl
-among_earlier q k (r ∷ rs) lt = elim (cases_lt r.quarter q) [
-  | inl on ↦ ap (row_at k) (earlier_on q r rs on) ∙ (elim (cases_eq r.quarter k) [
-    | inl is ↦ row_here k r (earlier q rs) is ∙ sym (row_here k r rs is)
-    | inr not ↦ row_other k r (earlier q rs) not ∙ among_earlier q k rs lt ∙ sym (row_other k r rs not)
-  ])
-  | inr past ↦ ap (row_at k) (earlier_past q r rs past) ∙ among_earlier q k rs lt ∙ sym (row_other k r rs (λ is. absurd (omega arith)))
-]
+among_earlier q k (r ∷ rs) lt = among (λ (x : QuarterRow). nat_lt x.quarter q) k r rs (among_earlier q k rs lt) (λ out is. let past = ltb-false r.quarter q out in omega arith)
 
 -- The row of a later period is found among the later ones.
 among_later : (q k : ℕ) (rs : List QuarterRow) → q < k → row_at k (later q rs) ≡ row_at k rs
 among_later q k [] lt = refl
-among_later q k (r ∷ rs) lt = elim (cases_lt q r.quarter) [
-  | inl on ↦ ap (row_at k) (later_on q r rs on) ∙ (elim (cases_eq r.quarter k) [
-    | inl is ↦ row_here k r (later q rs) is ∙ sym (row_here k r rs is)
-    | inr not ↦ row_other k r (later q rs) not ∙ among_later q k rs lt ∙ sym (row_other k r rs not)
-  ])
-  | inr past ↦ ap (row_at k) (later_past q r rs past) ∙ among_later q k rs lt ∙ sym (row_other k r rs (λ is. absurd (omega arith)))
-]
+among_later q k (r ∷ rs) lt = among (λ (x : QuarterRow). nat_lt q x.quarter) k r rs (among_later q k rs lt) (λ out is. let past = ltb-false q r.quarter out in omega arith)
 
 -- The row of the period that was set.
 pub row_at-set_same : (row : QuarterRow) (rs : List QuarterRow) → (row.pairs ≡ 0 → row ≡ no_row row.quarter) → row_at row.quarter (set_row row rs) ≡ row
 row_at-set_same row rs none =
     let q = row.quarter in
-    skip_before q q (earlier q rs) (if_any row ++ later q rs) (earlier_before q rs) (omega arith) ∙ (elim (cases_lt 0 row.pairs) [
-      | inl some ↦ ap (λ any. row_at q (any ++ later q rs)) (some_row row some) ∙ row_here q row (later q rs) refl
-      | inr zero_pairs ↦ let e : row.pairs ≡ 0 = omega arith in ap (λ any. row_at q (any ++ later q rs)) (none_row row e) ∙ after_missing q (later q rs) (later_after q rs) ∙ sym (none e)
-    ])
+    skip_before q q (earlier q rs) (if_any row ++ later q rs) (earlier_before q rs) (omega arith)
+    ∙ any_cases (λ any. row_at q (any ++ later q rs) ≡ row) row (λ some. row_here q row (later q rs) refl) (λ e. after_missing q (later q rs) (later_after q rs) ∙ sym (none e))
 
 -- The set row and the later ones lack each earlier period.
 tail_missing : (k : ℕ) (row : QuarterRow) (rs : List QuarterRow) → k < row.quarter → row_at k (if_any row ++ later row.quarter rs) ≡ no_row k
 tail_missing k row rs lt =
     let after = after_less k row.quarter (later row.quarter rs) (omega arith) (later_after row.quarter rs) in
-    elim (cases_lt 0 row.pairs) [
-      | inl some ↦ ap (λ any. row_at k (any ++ later row.quarter rs)) (some_row row some) ∙ after_missing k (row ∷ later row.quarter rs) (lt, after)
-      | inr zero_pairs ↦ ap (λ any. row_at k (any ++ later row.quarter rs)) (none_row row (omega arith)) ∙ after_missing k (later row.quarter rs) after
-    ]
+    any_cases (λ any. row_at k (any ++ later row.quarter rs) ≡ no_row k) row (λ some. after_missing k (row ∷ later row.quarter rs) (lt, after)) (λ none. after_missing k (later row.quarter rs) after)
 
 -- The set row is passed over for a later period.
 tail_later : (k : ℕ) (row : QuarterRow) (rs : List QuarterRow) → row.quarter < k → row_at k (if_any row ++ later row.quarter rs) ≡ row_at k (later row.quarter rs)
-tail_later k row rs lt = elim (cases_lt 0 row.pairs) [
-  | inl some ↦ ap (λ any. row_at k (any ++ later row.quarter rs)) (some_row row some) ∙ row_other k row (later row.quarter rs) (λ is. absurd (omega arith))
-  | inr zero_pairs ↦ ap (λ any. row_at k (any ++ later row.quarter rs)) (none_row row (omega arith))
-]
+tail_later k row rs lt =
+    any_cases (λ any. row_at k (any ++ later row.quarter rs) ≡ row_at k (later row.quarter rs)) row (λ some. row_other k row (later row.quarter rs) (λ is. absurd (omega arith))) (λ none. refl)
 
 -- The row of another period stays.
 pub row_at-set_other : (k : ℕ) (row : QuarterRow) (rs : List QuarterRow) → k ≢ row.quarter → row_at k (set_row row rs) ≡ row_at k rs

@@ -1,19 +1,15 @@
 -- What the rows of pairs hold: no more than the pairs, and each of them.
-use Rattle.std.{proofs.Common.{◌≡◌, ℕ, ◌+◌, ◌<◌, ◌≤◌, ◌==◌, ◌⊎◌, ⊎_elim, Bool, true, false, cond, List, [], ◌∷◌, ◌++◌, length, map, sym, ap, ◌∙◌, subst, arith}, specs.List.{filter, sum_by}, proofs.lemmas.Bool.cases_order, proofs.lemmas.List.length-map, proofs.lemmas.List.Sums.{sum_by-le-sum_by, length-filter, count_by-le-length}}
+use Rattle.std.{proofs.Common.{refl, not, eqb, nat_lt, ◌≡◌, ℕ, ◌+◌, ◌<◌, ◌≤◌, ◌==◌, Bool, List, [], ◌∷◌, ◌++◌, length, map, sym, ap, ◌∙◌, subst, arith}, specs.List.{filter, sum_by}, proofs.lemmas.Bool.cond_both, proofs.lemmas.List.length-map, proofs.lemmas.List.Filters.sum_by-filter_both, proofs.lemmas.List.Sums.{length-filter, count_by-le-length}}
 use Rattle.energy_flow.specs.Flow.{Energy}
-use Rattle.ledger_model.{specs.ByDirection.{in_direction, plus_flows, CanMinusFlows}, specs.declared.by_direction.ByDirection.ByDirection, specs.declared.reading.Direction.Direction, specs.declared.reading.Direction.TheVariants.{Import, Export}, specs.Board.Flowed, specs.Energy.{put_in, rising}, proofs.Callers.{passed_sum, put_in-same, put_in-below, put_in-above}}
+use Rattle.ledger_model.{specs.ByDirection.{in_direction, plus_flows, CanMinusFlows}, specs.declared.by_direction.ByDirection.ByDirection, specs.declared.reading.Direction.Direction, specs.declared.reading.Direction.TheVariants.{Import, Export}, specs.Board.Flowed, specs.Energy.{put_in, rising}}
 use Rattle.quarter_table.{specs.declared.row.QuarterRow.QuarterRow, specs.Rows.{no_row, row_at, with_pair}, specs.Pairs.{total, row_of, rows_of}, proofs.Parts.plus_none, proofs.Made.{made_row, none_made, row_with_pair}}
 
 -- A number put in makes a list longer by one at most.
 length-put_in : (n : ℕ) (ms : List ℕ) → length (put_in n ms) ≤ length ms + 1
 length-put_in n [] = omega arith
-length-put_in n (m ∷ ms) = ⊎_elim
-    (λ (e : n ≡ m). rw (put_in-same n m ms e) (omega arith))
-    (λ (o : (n < m) ⊎ (m < n)). ⊎_elim
-    (λ (below : n < m). rw (put_in-below n m ms below) (omega arith))
-    (λ (above : m < n). let rest = length-put_in n ms in rw (put_in-above n m ms above) (omega (arith, rest)))
-    o)
-    (cases_order n m)
+length-put_in n (m ∷ ms) =
+    cond_both (eqb n m) _ _ (λ ks. length ks ≤ length (m ∷ ms) + 1) (λ same. omega arith)
+    (λ apart. cond_both (nat_lt n m) _ _ (λ ks. length ks ≤ length (m ∷ ms) + 1) (λ below. omega arith) (λ above. omega (arith, length-put_in n ms)))
 
 length-rising : (ns : List ℕ) → length (rising ns) ≤ length ns
 length-rising [] = omega arith
@@ -31,13 +27,9 @@ few_rows fs =
 pub few_pairs : (q : ℕ) (fs : List Flowed) → (row_of q fs).pairs ≤ length fs
 few_pairs q fs = omega (arith, length-filter (λ (f : Flowed). f.0 == q) fs, count_by-le-length (λ (f : Flowed). f.0 == q) fs)
 
-taken_le : (b : Bool) (n : ℕ) → cond b n 0 ≤ n
-taken_le true n = omega arith
-taken_le false n = omega arith
-
 -- A sum over some is no more than that over all.
 part_le : (measure : Flowed → ℕ) (p : Flowed → Bool) (fs : List Flowed) → sum_by measure (filter p fs) ≤ sum_by measure fs
-part_le measure p fs = omega (arith, passed_sum measure p fs, sum_by-le-sum_by (λ f. cond (p f) (measure f) 0) measure fs (λ f. taken_le (p f) (measure f)))
+part_le measure p fs = omega (arith, sum_by-filter_both p (λ f. not (p f)) (λ f. refl) measure fs)
 
 -- A row adds up to no more than all pairs do.
 pub row_up_le : (d : Direction) (q : ℕ) (fs : List Flowed) → (in_direction d (row_of q fs).energy).up ≤ (in_direction d (total fs)).up

@@ -72,20 +72,15 @@ made_in_order fs = rows_in_order (rising (map (λ f. f.0) fs)) fs (rising-AreRis
 pub made_have_pairs : (fs : List Flowed) → HavePairs (rows_of fs)
 made_have_pairs fs = rows_have_pairs (rising (map (λ f. f.0) fs)) fs (λ k there. (rising-IsIn k (map (λ f. f.0) fs)).0 there)
 
--- The row of a period that is listed.
-listed_row : (q : ℕ) (ks : List ℕ) (fs : List Flowed) → IsIn q ks → row_at q (map (λ k. row_of k fs) ks) ≡ row_of q fs
-listed_row q [] fs there = absurd there
-listed_row q (k ∷ ks) fs there = elim (cases_eq k q) [
+-- The row of a period that is listed, or has no pair.
+listed_row : (q : ℕ) (ks : List ℕ) (fs : List Flowed) → IsIn q ks ⊎ (row_of q fs ≡ no_row q) → row_at q (map (λ k. row_of k fs) ks) ≡ row_of q fs
+listed_row q [] fs h = elim h [ inl there ↦ absurd there | inr none ↦ sym none ]
+listed_row q (k ∷ ks) fs h = elim (cases_eq k q) [
   | inl is ↦ row_here q (row_of k fs) (map (λ k. row_of k fs) ks) is ∙ ap (λ n. row_of n fs) is
-  | inr not ↦ row_other q (row_of k fs) (map (λ k. row_of k fs) ks) not ∙ listed_row q ks fs (⊎_elim {C = IsIn q ks} (λ (e : q ≡ k). absurd (not (sym e))) (λ (rest : IsIn q ks). rest) there)
-]
-
--- The row of a period that has no pair, among any.
-missing_row : (q : ℕ) (ks : List ℕ) (fs : List Flowed) → row_of q fs ≡ no_row q → row_at q (map (λ k. row_of k fs) ks) ≡ row_of q fs
-missing_row q [] fs none = sym none
-missing_row q (k ∷ ks) fs none = elim (cases_eq k q) [
-  | inl is ↦ row_here q (row_of k fs) (map (λ k. row_of k fs) ks) is ∙ ap (λ n. row_of n fs) is
-  | inr not ↦ row_other q (row_of k fs) (map (λ k. row_of k fs) ks) not ∙ missing_row q ks fs none
+  | inr not ↦ row_other q (row_of k fs) (map (λ k. row_of k fs) ks) not ∙ listed_row q ks fs (elim h [
+    | inl there ↦ elim there [ inl e ↦ absurd (not (sym e)) | inr rest ↦ inl rest ]
+    | inr none ↦ inr none
+  ])
 ]
 
 -- A period that has no pair has no sum.
@@ -94,10 +89,10 @@ own_none q fs none = ap (row_with q) none
 
 -- The row of a period among the rows of pairs is what its pairs make.
 pub made_row : (q : ℕ) (fs : List Flowed) → row_at q (rows_of fs) ≡ row_of q fs
-made_row q fs = ⊎_elim
-    (λ (there : IsIn q (map (λ f. f.0) fs)). listed_row q (rising (map (λ f. f.0) fs)) fs ((rising-IsIn q (map (λ f. f.0) fs)).1 there))
-    (λ (none : own q fs ≡ []). missing_row q (rising (map (λ f. f.0) fs)) fs (own_none q fs none))
-    (in_or_none q fs)
+made_row q fs = listed_row q (rising (map (λ f. f.0) fs)) fs (elim (in_or_none q fs) [
+  | inl there ↦ inl ((rising-IsIn q (map (λ f. f.0) fs)).1 there)
+  | inr none ↦ inr (own_none q fs none)
+])
 
 -- A row without pairs has no sum.
 pub none_made : (q : ℕ) (fs : List Flowed) → (row_of q fs).pairs ≡ 0 → row_of q fs ≡ no_row q

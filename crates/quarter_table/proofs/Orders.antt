@@ -1,5 +1,5 @@
 -- Rows in order, cut at a period.
-use Rattle.std.{proofs.Common.{◌≡◌, ◌≢◌, ℕ, zero, suc, ◌<◌, ◌≤◌, cond, List, [], ◌∷◌, length, get_or, refl, ap, ◌∙◌, arith, inl, inr}, proofs.lemmas.Bool.{eq-eqb, ne_eqb, lt-ltb, le-ltb, cases_lt}}
+use Rattle.std.{proofs.Common.{nat_lt, ◌≡◌, ◌≢◌, ℕ, zero, suc, ◌<◌, ◌≤◌, cond, List, [], ◌∷◌, length, get_or, refl, ap, ◌∙◌, arith, inl, inr}, proofs.lemmas.Bool.{eq-eqb, ne_eqb, lt-ltb, le-ltb, cases_lt}, proofs.lemmas.List.Sums.{count_by-le-length, length-filter}}
 use Rattle.quarter_table.{specs.declared.row.QuarterRow.QuarterRow, specs.Rows.{no_row, row_at, earlier, later, AreAfter, AreInOrder}}
 
 -- A row of an earlier period is among the earlier ones.
@@ -54,11 +54,7 @@ after_at q (r ∷ rs) (suc i) d after lt = after_at q rs i d after.1 (omega arit
 
 -- No more rows are earlier than there are.
 pub place_within : (q : ℕ) (rs : List QuarterRow) → length (earlier q rs) ≤ length rs
-place_within q [] = omega arith
-place_within q (r ∷ rs) = elim (cases_lt r.quarter q) [
-  | inl lt ↦ rw (earlier_on q r rs lt) (omega (arith, place_within q rs))
-  | inr le ↦ rw (earlier_past q r rs le) (omega (arith, place_within q rs))
-]
+place_within q rs = omega (arith, length-filter (λ (r : QuarterRow). nat_lt r.quarter q) rs, count_by-le-length (λ (r : QuarterRow). nat_lt r.quarter q) rs)
 
 -- Where the first row is not earlier, none is.
 pub none_earlier : (q : ℕ) (r : QuarterRow) (rs : List QuarterRow) → AreInOrder (r ∷ rs) → q ≤ r.quarter → earlier q (r ∷ rs) ≡ []

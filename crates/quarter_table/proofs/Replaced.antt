@@ -1,6 +1,6 @@
 -- Rows with one replaced or left out.
-use Rattle.std.{proofs.Common.{◌≡◌, ℕ, zero, suc, ◌<◌, ◌≤◌, Bool, true, false, cond, nat_lt, List, [], ◌∷◌, ◌++◌, length, take, drop, set, refl, sym, ap, ◌∙◌, arith, inl, inr}, specs.List.{insert, remove, filter}, proofs.lemmas.Bool.{eq-eqb, ne_eqb, cases_lt}}
-use Rattle.quarter_table.{specs.declared.row.QuarterRow.QuarterRow, specs.Rows.{earlier, later, if_any, set_row, AreAfter, AreInOrder, HavePairs}, specs.Kept.{StandsAt, BelongsAt}, proofs.Orders.{earlier_on, earlier_past, later_on, later_past}}
+use Rattle.std.{proofs.Common.{◌≡◌, ℕ, suc, ◌<◌, ◌≤◌, Bool, true, false, cond, nat_lt, eqb, List, [], ◌∷◌, ◌++◌, drop, set, sym, ap, ◌∙◌, arith}, specs.List.{insert, remove, filter}, proofs.lemmas.Bool.{cond_both, eq-eqb, eqb-false, eqb-true, ltb-true, ne_eqb}, proofs.lemmas.List.set_split}
+use Rattle.quarter_table.{specs.declared.row.QuarterRow.QuarterRow, specs.Rows.{earlier, later, if_any, set_row, AreAfter, AreInOrder, HavePairs}, specs.Kept.{StandsAt, BelongsAt}}
 
 -- A row that has a pair.
 pub some_row : (r : QuarterRow) → 0 < r.pairs → if_any r ≡ r ∷ []
@@ -10,19 +10,13 @@ some_row r lt = ap (λ b. cond b [] (r ∷ [])) (ne_eqb r.pairs 0 (λ e. absurd 
 pub none_row : (r : QuarterRow) → r.pairs ≡ 0 → if_any r ≡ []
 none_row r e = ap (λ b. cond b [] (r ∷ [])) (eq-eqb r.pairs 0 e)
 
--- A list with one element replaced: what is in front of it, the new one, and what is behind.
-set_cut : {X : Type 0} (xs : List X) (i : ℕ) (x : X) → i < length xs → set xs i x ≡ take i xs ++ x ∷ drop (suc i) xs
-set_cut [] i x lt = absurd (omega arith)
-set_cut (y ∷ xs) zero x lt = refl
-set_cut (y ∷ xs) (suc i) x lt = ap (λ l. y ∷ l) (set_cut xs i x (omega arith))
-
 -- A row that has a pair is between the earlier rows and the later ones.
 set_some : (q : ℕ) (row : QuarterRow) (rs : List QuarterRow) → row.quarter ≡ q → 0 < row.pairs → set_row row rs ≡ earlier q rs ++ row ∷ later q rs
 set_some q row rs is some = ap (λ any. earlier row.quarter rs ++ (any ++ later row.quarter rs)) (some_row row some) ∙ ap (λ n. earlier n rs ++ row ∷ later n rs) is
 
 -- A row written over that of its period.
 pub row_written : (q : ℕ) (row : QuarterRow) (rs : List QuarterRow) (at : ℕ) → StandsAt q rs at → row.quarter ≡ q → 0 < row.pairs → set rs at row ≡ set_row row rs
-row_written q row rs at s is some = set_cut rs at row s.within ∙ ap (λ l. l ++ row ∷ drop (suc at) rs) s.front ∙ ap (λ l. earlier q rs ++ row ∷ l) s.back ∙ sym (set_some q row rs is some)
+row_written q row rs at s is some = set_split rs at row s.within ∙ ap (λ l. l ++ row ∷ drop (suc at) rs) s.front ∙ ap (λ l. earlier q rs ++ row ∷ l) s.back ∙ sym (set_some q row rs is some)
 
 -- A row put in where its period had none.
 pub row_inserted : (q : ℕ) (row : QuarterRow) (rs : List QuarterRow) (at : ℕ) → BelongsAt q rs at → row.quarter ≡ q → 0 < row.pairs → insert rs at row ≡ set_row row rs
@@ -42,12 +36,7 @@ after_filter p q (r ∷ rs) after = elim (p r) as (λ b. AreAfter q (cond b (r �
 -- Rows in order, without some of them.
 order_filter : (p : QuarterRow → Bool) (rs : List QuarterRow) → AreInOrder rs → AreInOrder (filter p rs)
 order_filter p [] order = tt
-order_filter p (r ∷ rs) order =
-    elim (p r) as (λ b. AreInOrder (cond b (r ∷ filter p rs) (filter p rs))) [
-      | true ↦
-          (after_filter p r.quarter rs order.0, order_filter p rs order.1)
-      | false ↦ order_filter p rs order.1
-    ]
+order_filter p (r ∷ rs) order = cond_both (p r) _ _ AreInOrder (λ is. (after_filter p r.quarter rs order.0, order_filter p rs order.1)) (λ out. order_filter p rs order.1)
 
 -- Rows that have pairs, without some of them.
 pairs_filter : (p : QuarterRow → Bool) (rs : List QuarterRow) → HavePairs rs → HavePairs (filter p rs)
@@ -72,18 +61,12 @@ AreFrom q (r ∷ rs) = (q ≤ r.quarter) × AreFrom q rs
 -- The rows of earlier periods are that.
 pub earlier_before : (q : ℕ) (rs : List QuarterRow) → AreBefore q (earlier q rs)
 earlier_before q [] = tt
-earlier_before q (r ∷ rs) = elim (cases_lt r.quarter q) [
-  | inl lt ↦ rw (earlier_on q r rs lt) (lt, earlier_before q rs)
-  | inr le ↦ rw (earlier_past q r rs le) (earlier_before q rs)
-]
+earlier_before q (r ∷ rs) = cond_both (nat_lt r.quarter q) _ _ (AreBefore q) (λ is. (ltb-true r.quarter q is, earlier_before q rs)) (λ past. earlier_before q rs)
 
 -- The rows of later periods are that.
 pub later_after : (q : ℕ) (rs : List QuarterRow) → AreAfter q (later q rs)
 later_after q [] = tt
-later_after q (r ∷ rs) = elim (cases_lt q r.quarter) [
-  | inl lt ↦ rw (later_on q r rs lt) (lt, later_after q rs)
-  | inr le ↦ rw (later_past q r rs le) (later_after q rs)
-]
+later_after q (r ∷ rs) = cond_both (nat_lt q r.quarter) _ _ (AreAfter q) (λ is. (ltb-true q r.quarter is, later_after q rs)) (λ past. later_after q rs)
 
 -- Rows after a period are from it on.
 pub after_from : (q : ℕ) (rs : List QuarterRow) → AreAfter q rs → AreFrom q rs
@@ -105,14 +88,15 @@ order_both : (q : ℕ) (xs ys : List QuarterRow) → AreInOrder xs → AreInOrde
 order_both q [] ys a b before from = b
 order_both q (x ∷ xs) ys a b before from = (after_both x.quarter xs ys a.0 (from_after x.quarter q ys before.0 from), order_both q xs ys a.1 b before.1 from)
 
+-- What is so of the rows of one period, by whether it has a pair.
+pub any_cases : (P : List QuarterRow → Type 0) (r : QuarterRow) → (0 < r.pairs → P (r ∷ [])) → (r.pairs ≡ 0 → P []) → P (if_any r)
+any_cases P r some none = cond_both (eqb r.pairs 0) _ _ P (λ is. none (eqb-true r.pairs 0 is)) (λ apart. some (omega (arith, eqb-false r.pairs 0 apart)))
+
 -- A row by itself and the later rows are in order, and have pairs where each has.
 any_later : (row : QuarterRow) (rs : List QuarterRow) → AreInOrder rs → AreInOrder (if_any row ++ later row.quarter rs) × AreFrom row.quarter (if_any row ++ later row.quarter rs)
 any_later row rs order =
-    let rest = order_filter (λ r. nat_lt row.quarter r.quarter) rs order in let after = later_after row.quarter rs in
-    elim (cases_lt 0 row.pairs) [
-      | inl some ↦ rw (some_row row some) ((after, rest), (omega arith, after_from row.quarter (later row.quarter rs) after))
-      | inr none ↦ let zero_pairs : row.pairs ≡ 0 = omega arith in rw (none_row row zero_pairs) (rest, after_from row.quarter (later row.quarter rs) after)
-    ]
+    let rest = order_filter (λ r. nat_lt row.quarter r.quarter) rs order in let after = later_after row.quarter rs in let from = after_from row.quarter (later row.quarter rs) after in
+    any_cases (λ any. AreInOrder (any ++ later row.quarter rs) × AreFrom row.quarter (any ++ later row.quarter rs)) row (λ some. ((after, rest), (omega arith, from))) (λ none. (rest, from))
 
 -- Rows stay in order where one is replaced or left out.
 pub order_set : (row : QuarterRow) (rs : List QuarterRow) → AreInOrder rs → AreInOrder (set_row row rs)
@@ -124,7 +108,5 @@ order_set row rs order =
 pub pairs_set : (row : QuarterRow) (rs : List QuarterRow) → HavePairs rs → HavePairs (set_row row rs)
 pairs_set row rs pairs =
     let rest = pairs_filter (λ r. nat_lt row.quarter r.quarter) rs pairs in
-    pairs_both (earlier row.quarter rs) (if_any row ++ later row.quarter rs) (pairs_filter (λ r. nat_lt r.quarter row.quarter) rs pairs) (elim (cases_lt 0 row.pairs) [
-      | inl some ↦ rw (some_row row some) (some, rest)
-      | inr none ↦ let zero_pairs : row.pairs ≡ 0 = omega arith in rw (none_row row zero_pairs) rest
-    ])
+    pairs_both (earlier row.quarter rs) (if_any row ++ later row.quarter rs) (pairs_filter (λ r. nat_lt r.quarter row.quarter) rs pairs)
+    (any_cases (λ any. HavePairs (any ++ later row.quarter rs)) row (λ some. (some, rest)) (λ none. rest))

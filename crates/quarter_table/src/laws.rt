@@ -18,6 +18,7 @@ pub fn rows_follow_pairs()
 /// The row of a period counts and adds up the period's pairs. It has one pair more if a pair of its
 /// period is added at any place, stays the same if a pair of another period is added, and has no
 /// energy if it has no pair.
+#[tactic(auto, using(crate::proofs::Made::made_row, crate::proofs::Made::row_with_pair, crate::proofs::Made::row_without_pair, crate::proofs::Made::none_made))]
 pub fn each_row_is_of_its_pairs()
     ensures row { (quarter : ℕ) (flows : List Flowed) → row_at quarter (rows_of flows) ≡ row_of quarter flows }
     ensures same_quarter { (front : List Flowed) (quarter : ℕ) (flow : ByDirection Energy) (back : List Flowed)
@@ -34,6 +35,7 @@ pub fn pair_may_be_taken_out()
 {}
 
 /// There are no more rows than pairs, and no row counts or adds up to more than all pairs.
+#[tactic(auto, using(crate::proofs::Held::few_rows, crate::proofs::Held::few_pairs, crate::proofs::Held::row_up_le, crate::proofs::Held::row_down_le))]
 pub fn rows_are_within_pairs()
     ensures rows { (flows : List Flowed) → length (rows_of flows) ≤ length flows }
     ensures pairs { (quarter : ℕ) (flows : List Flowed) → (row_of quarter flows).pairs ≤ length flows }
@@ -52,6 +54,7 @@ pub fn rows_follow_events()
 
 /// The rows of the parts of a station's differences are the periods of its board, in either order. Where no difference
 /// is shared, these are the rows of its pairs.
+#[tactic(auto, using(crate::proofs::Boards::lines_of_station, crate::proofs::Boards::whole_station))]
 pub fn rows_are_quarters_of_board()
     ensures board { (order : Order) (period : Periods) (es : List Entry) → map line_of (rows_of (board_flows_by order period es)) ≡ (board_by order period es).quarters }
     ensures whole { (order : Order) (period : Periods) (es : List Entry) → period.rule ≢ Settle.Even → board_flows_by order period es ≡ station_flows_by order period es }

@@ -1,5 +1,5 @@
 -- The thread of free slots is kept by each step of an arena.
-use Rattle.std.{proofs.Common.{◌≡◌, ℕ, zero, suc, ◌+◌, ◌-◌, ◌<◌, ◌≤◌, true, cond, List, [], ◌∷◌, length, get_or, set, replicate, Option, Some, None, is_some, refl, sym, ap, ◌∙◌, subst, arith, length-set}, proofs.lemmas.List.{map-set, get_or-set_same, get_or-set_other}, proofs.lemmas.List.Sums.{sum_by-set, sum_by-cons}}
+use Rattle.std.{proofs.Common.{◌≡◌, ℕ, zero, suc, ◌+◌, ◌-◌, ◌<◌, ◌≤◌, true, cond, List, [], ◌∷◌, length, get_or, set, replicate, Option, Some, None, is_some, refl, sym, ap, ◌∙◌, subst, arith, length-set}, proofs.lemmas.List.{length-map, map-set, get_or-set_same, get_or-set_other}, proofs.lemmas.List.Sums.{sum_by-set, sum_by-cons}}
 use Rattle.slot_arena.{specs.declared.slot.Slot.Slot, specs.declared.slot.Slot.TheVariants.{Free, Held}, specs.Slots.{HoldsValue, LinksOn}, specs.declared.arena.TheConstants.MAX_SLOTS, specs.Arena.{value_at, IsHeld, held_count}, specs.Free.{IsApart, AreApart, value_in, values_in, IsThread, AreMade, IsThreaded, links}, proofs.Rooms.holding_within, proofs.Fresh.{length-links, links_at, links_made, links_values}}
 
 module _ {X : Type 0} where
@@ -19,8 +19,7 @@ module _ {X : Type 0} where
 
   -- An arena has as many ids as its row has places.
   pub shown_length : (row : List (Option (Slot X))) → length (values_in row) ≡ length row
-  shown_length [] = refl
-  shown_length (place ∷ row) = ap suc (shown_length row)
+  shown_length row = length-map row value_in
 
   -- A place that shows a value holds it.
   shows_value : (place : Option (Slot X)) → is_some (value_in place) ≡ true → (x : X) × (place ≡ Some (Held x))

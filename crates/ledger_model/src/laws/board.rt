@@ -19,6 +19,7 @@ pub fn complete_is_four_conditions()
 
 /// The energy of a station in a direction is the sum over its settlement periods, whatever their length and
 /// their rule: so each rule shows the same energy in all.
+#[tactic(auto, using(crate::proofs::EnergyLemmas::by_quarter))]
 pub fn energy_by_quarter()
     ensures { (order : Order) (d : Direction) (period : Periods) (es : List Entry)
         → energy_by order d es ≡ sum_of_energies (map (λ quarter. energy_in_by order d period quarter es) (quarters_by order period es)) }
@@ -26,11 +27,13 @@ pub fn energy_by_quarter()
 
 /// The energy of a station in a direction is the sum over its EVSEs, with 0 for transactions that name
 /// none.
+#[tactic(auto, using(crate::proofs::EnergyLemmas::by_evse))]
 pub fn energy_by_evse()
     ensures { (order : Order) (d : Direction) (es : List Entry) → energy_by order d es ≡ sum_of_energies (map (λ evse. energy_at_by order d evse es) (evses es)) }
 {}
 
 /// The energy of a station in a direction is the sum over its transactions with a live event.
+#[tactic(auto, using(crate::proofs::EnergyLemmas::by_transaction))]
 pub fn energy_by_transaction()
     ensures { (order : Order) (d : Direction) (es : List Entry) → energy_by order d es ≡ sum_of_energies (map (λ tx. energy_of_by order d tx es) (transactions_of (live es))) }
 {}
@@ -49,6 +52,7 @@ pub fn shown_once_and_rising()
 
 /// The energy of a site's period is, in each direction, the sum over its stations, whether a station
 /// shows the period or not.
+#[tactic(auto, using(crate::proofs::EnergyLemmas::site_quarter))]
 pub fn site_quarters_are_sums()
     ensures { (order : Order) (period : Periods) (quarter : ℕ) (stations : List (List Entry)) → flows_under quarter (quarters_over order period stations) ≡ flows_over order period quarter stations }
 {}

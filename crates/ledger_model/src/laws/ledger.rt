@@ -5,6 +5,7 @@ ghost use Rattle.ledger_model.{specs.declared.reading.Direction.Direction, specs
 
 /// An accepted void and then an accepted restoration of the same key leave the same events, with the
 /// same ones voided; both changes are counted.
+#[tactic(auto, using(crate::proofs::LedgerLemmas::inverse))]
 pub fn inverses()
     ensures events { (limits : Bounds) (c : Content) (key : KeyName) → AreAccepted limits c (Void key ∷ Restore key ∷ []) → (left_by limits c (Void key ∷ Restore key ∷ [])).events ≡ c.events }
     ensures counted { (limits : Bounds) (c : Content) (key : KeyName) → AreAccepted limits c (Void key ∷ Restore key ∷ []) → (left_by limits c (Void key ∷ Restore key ∷ [])).changes ≡ c.changes + 2 }
@@ -25,6 +26,7 @@ pub fn orders()
 /// A content is reached by n changes exactly if some list of n admissible commands, all accepted, leads
 /// to it from the empty content. Its count of changes is then n, at most its limit. What it stores and
 /// its figures are within its limits.
+#[tactic(auto, using(crate::proofs::ReachedContents::run_of, crate::proofs::ReachedContents::reached_by, crate::proofs::ReachedContents::counts, crate::proofs::ReachedContents::few_changes))]
 pub fn reached()
     ensures run { (limits : Bounds) (n : ℕ) (c : Content) → Reached limits n c → (commands : List Command) × IsLeftByRun limits n c commands }
     ensures each_run { (limits : Bounds) (n : ℕ) (c : Content) (commands : List Command) → IsLeftByRun limits n c commands → Reached limits n c }
@@ -38,6 +40,7 @@ pub fn reached()
 
 /// The readings of a transaction in a direction, in order, are those found by looking at the numbers 0, 1, .. one by
 /// one, up to any number above all stored ones.
+#[tactic(auto, using(crate::proofs::OrderOfReadings::readings_by_number))]
 pub fn readings_in_order()
     ensures { (d : Direction) (tx : List ℕ) (c : Content) (n : ℕ) → All (λ e. e.0.seq < n) (entries c) → by_number d tx c n ≡ readings_of d tx (entries c) }
 {}

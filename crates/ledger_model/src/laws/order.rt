@@ -30,6 +30,7 @@ pub fn readings_by_moment()
 
 /// If no reading of a transaction is earlier than the one in front of it by sequence, the two orders
 /// give equal boards.
+#[tactic(auto, using(crate::proofs::LiveEvents::agreeing_boards))]
 pub fn orders_agree()
     ensures { (period : Periods) (es : List Entry) → ((d : Direction) (tx : List ℕ) → AreInTime taken_when (readings_of d tx es)) → board_by Moment period es ≡ board_by Sequence period es }
 {}

@@ -1,5 +1,5 @@
 use Rattle.std.{proofs.Common.{◌≡◌, ◌+◌, subst, sym, ap, ◌∙◌, arith}, proofs.lemmas.Bool.Decides.nat_tests, specs.Vec.vec_len}
-use Rattle.key_index.{specs.Leaves.{all_of, AreFilled, AreEmpty}, specs.Entries.AreRising, proofs.Belonging.few_leaves, proofs.Edits.{joined_same_at, joined_filled_at, empty_more}}
+use Rattle.key_index.{specs.Leaves.{all_of, AreFilled, AreEmpty}, specs.Entries.AreRising, proofs.Belonging.few_leaves, proofs.Edits.{joined, empty_more}}
 use Rattle.key_index.proofs.leaves.reclaim.Goals as goal
 
 pub unreachable-requires : goal.unreachable-requires
@@ -11,13 +11,13 @@ unreachable-requires g c =
 pub returns-clause-same : goal.returns-clause-same
 returns-clause-same g c =
     let ls = c.args.leaves.now.items in let at = c.in-Some.at in
-    ap all_of c.join-empty.ensures.items ∙ joined_same_at ls at (at + 1) (omega arith) c.in-Some.ensures.fits.0
+    ap all_of c.join-empty.ensures.items ∙ (joined ls at (at + 1) (omega arith) c.in-Some.ensures.fits.0 c.requires.kept.filled).0
 
 pub returns-clause-kept : goal.returns-clause-kept
 returns-clause-kept g c =
-    let ls = c.args.leaves.now.items in let at = c.in-Some.at in let fits = c.in-Some.ensures.fits.0 in
+    let ls = c.args.leaves.now.items in let at = c.in-Some.at in let one = joined ls at (at + 1) (omega arith) c.in-Some.ensures.fits.0 c.requires.kept.filled in
     record {
-      filled = subst AreFilled (sym c.join-empty.ensures.items) (joined_filled_at ls at (at + 1) (omega arith) fits c.requires.kept.filled);
-      rising = subst AreRising (sym (ap all_of c.join-empty.ensures.items ∙ joined_same_at ls at (at + 1) (omega arith) fits)) c.requires.kept.rising;
+      filled = subst AreFilled (sym c.join-empty.ensures.items) one.1;
+      rising = subst AreRising (sym (ap all_of c.join-empty.ensures.items ∙ one.0)) c.requires.kept.rising;
       empty = subst AreEmpty (sym c.push_reserved.ensures.items) (empty_more c.args.spare.now.items c.join-empty.result c.requires.kept.empty c.join-empty.ensures.empty);
     }

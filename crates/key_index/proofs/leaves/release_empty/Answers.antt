@@ -1,5 +1,5 @@
-use Rattle.std.proofs.Common.{◌<◌, ◌≤◌, [], length, get_or, subst, sym, ap, ◌∙◌, arith}
-use Rattle.key_index.{specs.Leaves.{all_of, AreFilled, AreEmpty}, proofs.Belonging.read_leaf, proofs.Edits.{filled_whole, left_out_filled, left_out_same, empty_more, none_is}}
+use Rattle.std.{proofs.Common.{◌<◌, ◌≤◌, [], length, get_or, subst, sym, ap, ◌∙◌, arith}, proofs.lemmas.List.nil_from_length}
+use Rattle.key_index.{specs.Leaves.{all_of, AreFilled, AreEmpty}, proofs.Belonging.read_leaf, proofs.Edits.{filled_whole, left_out_filled, left_out_same, empty_more}}
 use Rattle.key_index.proofs.leaves.release_empty.Goals as goal
 
 pub returns-then-len-gt0-clause-filled : goal.returns-then-len-gt0-clause-filled
@@ -18,7 +18,7 @@ returns-clause-empty g c =
     let here = read_leaf ls at c.index.result.now c.requires.within c.index.ensures in
     let none : length (get_or ls at []) ≤ 0 = subst (λ l. length l ≤ 0) here (omega (arith, c.len.ensures.len, c.if-len-gt0.false)) in
     let leaf = read_leaf ls at c.remove-leaf.result c.requires.within c.remove-leaf.ensures.value in
-    subst AreEmpty (sym c.push_reserved.ensures.items) (empty_more c.args.spare.now.items c.remove-leaf.result c.requires.empty (leaf ∙ none_is (get_or ls at []) none))
+    subst AreEmpty (sym c.push_reserved.ensures.items) (empty_more c.args.spare.now.items c.remove-leaf.result c.requires.empty (leaf ∙ nil_from_length (get_or ls at []) (omega (arith, none))))
 
 pub returns-clause-same : goal.returns-clause-same
 returns-clause-same g c =

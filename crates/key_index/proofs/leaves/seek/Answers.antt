@@ -1,5 +1,5 @@
 use Rattle.std.proofs.Common.{length, subst, sym, ap, ◌∙◌, ◌≤◌}
-use Rattle.key_index.{specs.Entries.{below, AreRising}, proofs.Belonging.read_leaf, proofs.Cuts.rising_leaf, proofs.Placing.place_found}
+use Rattle.key_index.{specs.Entries.{below, AreRising}, proofs.Belonging.{read_leaf, rising_leaf}, proofs.Placing.place_found}
 use Rattle.key_index.proofs.leaves.seek.Goals as goal
 
 pub place_of-entry-requires : goal.place_of-entry-requires

@@ -1,5 +1,5 @@
 use Rattle.std.{proofs.Common.{◌≡◌, ℕ, ◌<◌, List, ◌++◌, ◌∷◌, [], None, length, get_or, set, subst, sym, ap, ◌∙◌, arith, length-set}, proofs.lemmas.List.Edits.length-insert, specs.List.insert}
-use Rattle.key_index.{specs.Entries.{Entry, below, from, filed_at, AreRising}, specs.Leaves.{all_of, AreFilled}, proofs.Orders.below_within, proofs.Edits.filled_set, proofs.Cuts.{rising_leaf, put_all, rising_put, length_put}}
+use Rattle.key_index.{specs.Entries.{Entry, below, from, filed_at, AreRising}, specs.Leaves.{all_of, AreFilled}, proofs.Orders.below_within, proofs.Edits.filled_set, proofs.Belonging.rising_leaf, proofs.Cuts.{put_all, rising_put, length_put}}
 use Rattle.key_index.proofs.index.KeyIndex.insert_making_room.Goals as goal
 
 -- An entry put in, given by its parts.

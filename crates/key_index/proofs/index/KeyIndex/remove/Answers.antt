@@ -1,13 +1,11 @@
-use Rattle.std.{proofs.Common.{◌≡◌, ◌<◌, ◌++◌, suc, true, [], is_some, length, take, drop, get_or, subst, sym, ap, ◌∙◌, arith, length-set, length-append}, specs.List.remove}
-use Rattle.key_index.{specs.Entries.{below, from, filed_at, AreRising}, specs.Leaves.{all_of, AreFilled}, proofs.Edits.filled_round, proofs.Cuts.{rising_leaf, from_at, out_all, present_in, place_within, set_round, rising_out, length_out}}
+use Rattle.std.{proofs.Common.{◌≡◌, ◌<◌, ◌++◌, suc, [], is_some, length, take, drop, get_or, subst, sym, ap, ◌∙◌, arith, length-set, length-append}, specs.List.remove}
+use Rattle.key_index.{specs.Entries.{below, from, filed_at, AreRising}, specs.Leaves.{all_of, AreFilled}, proofs.Edits.filled_round, proofs.Belonging.rising_leaf, proofs.Cuts.{from_at, out_all, some_left, place_within, set_round, rising_out, length_out}}
 use Rattle.key_index.proofs.index.KeyIndex.remove.Goals as goal
 
 pub take_out-requires : goal.take_out-requires
 take_out-requires g c =
     let ls = c.self.inside.leaves.items in let at = c.leaf_of-at.result in let b = c.leaf_of-at.ensures in let key = g.K.Ranked.rank c.args.key in let leaf = get_or ls at [] in
-    let there : is_some (filed_at key (from key leaf ++ all_of (drop (suc at) ls))) ≡ true =
-    ap (λ l. is_some (filed_at key l)) (sym (from_at key ls at b)) ∙ ap (λ i. is_some (filed_at key (from key i.entries))) c.self.view_is ∙ c.requires in
-    let some = present_in key (from key leaf) (all_of (drop (suc at) ls)) b.back there in
+    let some = some_left key ls at b (ap (λ i. is_some (filed_at key (from key i.entries))) c.self.view_is ∙ c.requires) in
     (b.within, rising_leaf ls at b.within c.self.invariant.kept.rising, place_within key leaf some)
 
 pub release_empty-requires-clause-filled : goal.release_empty-requires-clause-filled
@@ -23,9 +21,7 @@ release_empty-requires-clause-filled g c =
 pub returns-clause-entries : goal.returns-clause-entries
 returns-clause-entries g c =
     let ls = c.self.inside.leaves.items in let at = c.leaf_of-at.result in let b = c.leaf_of-at.ensures in let key = g.K.Ranked.rank c.args.key in let leaf = get_or ls at [] in
-    let there : is_some (filed_at key (from key leaf ++ all_of (drop (suc at) ls))) ≡ true =
-    ap (λ l. is_some (filed_at key l)) (sym (from_at key ls at b)) ∙ ap (λ i. is_some (filed_at key (from key i.entries))) c.self.view_is ∙ c.requires in
-    let some = present_in key (from key leaf) (all_of (drop (suc at) ls)) b.back there in
+    let some = some_left key ls at b (ap (λ i. is_some (filed_at key (from key i.entries))) c.self.view_is ∙ c.requires) in
     c.release_empty.ensures.same ∙ ap all_of c.take_out.ensures.items ∙ out_all key ls at b some ∙ ap (λ i. below key i.entries ++ drop 1 (from key i.entries)) c.self.view_is
 
 pub invariant_of-self : goal.invariant_of-self
@@ -37,9 +33,7 @@ invariant_of-self g c =
     let key = g.K.Ranked.rank c.args.key in
     let leaf = get_or ls at [] in
     let less = remove leaf (length (below key leaf)) in let es = all_of ls in
-    let there : is_some (filed_at key (from key leaf ++ all_of (drop (suc at) ls))) ≡ true =
-    ap (λ l. is_some (filed_at key l)) (sym (from_at key ls at b)) ∙ ap (λ i. is_some (filed_at key (from key i.entries))) c.self.view_is ∙ c.requires in
-    let some = present_in key (from key leaf) (all_of (drop (suc at) ls)) b.back there in
+    let some = some_left key ls at b (ap (λ i. is_some (filed_at key (from key i.entries))) c.self.view_is ∙ c.requires) in
     let found : 0 < length (from key es) = omega (arith, some, ap length (from_at key ls at b), length-append (from key leaf) (all_of (drop (suc at) ls))) in
     let all : all_of c.release_empty.new.leaves.items ≡ below key es ++ drop 1 (from key es) = c.release_empty.ensures.same ∙ ap all_of c.take_out.ensures.items ∙ out_all key ls at b some in
     let as_many : length c.take_out.new.leaves.items ≡ length ls = ap length c.take_out.ensures.items ∙ length-set ls at less in

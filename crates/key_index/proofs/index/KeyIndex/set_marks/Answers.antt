@@ -1,13 +1,11 @@
-use Rattle.std.proofs.Common.{◌≡◌, ◌++◌, suc, true, [], is_some, length, drop, get_or, subst, sym, ap, ◌∙◌, arith, length-set, length-append}
-use Rattle.key_index.{specs.Entries.{below, from, filed_at, AreRising}, specs.Leaves.{all_of, AreFilled}, specs.Marks.mark_at, proofs.Orders.cut_whole, proofs.Edits.{filled_round, filled_set}, proofs.Cuts.{rising_leaf, from_at, present_in, place_within}, proofs.Counting.length-mark_at, proofs.Placing.{mark_all, rising_mark}}
+use Rattle.std.proofs.Common.{◌≡◌, ◌++◌, [], is_some, length, get_or, subst, sym, ap, ◌∙◌, arith, length-set, length-append}
+use Rattle.key_index.{specs.Entries.{below, from, filed_at, AreRising}, specs.Leaves.{all_of, AreFilled}, specs.Marks.mark_at, proofs.Orders.cut_whole, proofs.Edits.{filled_round, filled_set}, proofs.Belonging.rising_leaf, proofs.Cuts.{some_left, place_within}, proofs.Counting.length-mark_at, proofs.Placing.{mark_all, rising_mark}}
 use Rattle.key_index.proofs.index.KeyIndex.set_marks.Goals as goal
 
 pub mark-requires : goal.mark-requires
 mark-requires g c =
     let ls = c.self.inside.leaves.items in let at = c.leaf_of-at.result in let b = c.leaf_of-at.ensures in let key = g.K.Ranked.rank c.args.key in let leaf = get_or ls at [] in
-    let there : is_some (filed_at key (from key leaf ++ all_of (drop (suc at) ls))) ≡ true =
-    ap (λ l. is_some (filed_at key l)) (sym (from_at key ls at b)) ∙ ap (λ i. is_some (filed_at key (from key i.entries))) c.self.view_is ∙ c.requires in
-    let some = present_in key (from key leaf) (all_of (drop (suc at) ls)) b.back there in
+    let some = some_left key ls at b (ap (λ i. is_some (filed_at key (from key i.entries))) c.self.view_is ∙ c.requires) in
     (b.within, rising_leaf ls at b.within c.self.invariant.kept.rising, place_within key leaf some)
 
 pub returns-clause-entries : goal.returns-clause-entries
@@ -18,9 +16,7 @@ returns-clause-entries g c =
     let key = g.K.Ranked.rank c.args.key in
     let leaf = get_or ls at [] in
     let marks = c.args.marks in
-    let there : is_some (filed_at key (from key leaf ++ all_of (drop (suc at) ls))) ≡ true =
-    ap (λ l. is_some (filed_at key l)) (sym (from_at key ls at b)) ∙ ap (λ i. is_some (filed_at key (from key i.entries))) c.self.view_is ∙ c.requires in
-    let some = present_in key (from key leaf) (all_of (drop (suc at) ls)) b.back there in
+    let some = some_left key ls at b (ap (λ i. is_some (filed_at key (from key i.entries))) c.self.view_is ∙ c.requires) in
     ap all_of c.mark.ensures.items ∙ mark_all marks key ls at b some ∙ ap (λ i. below key i.entries ++ mark_at marks 0 (from key i.entries)) c.self.view_is
 
 pub invariant_of-self : goal.invariant_of-self
@@ -33,9 +29,7 @@ invariant_of-self g c =
     let leaf = get_or ls at [] in
     let marks = c.args.marks in
     let es = all_of ls in let new = mark_at marks (length (below key leaf)) leaf in
-    let there : is_some (filed_at key (from key leaf ++ all_of (drop (suc at) ls))) ≡ true =
-    ap (λ l. is_some (filed_at key l)) (sym (from_at key ls at b)) ∙ ap (λ i. is_some (filed_at key (from key i.entries))) c.self.view_is ∙ c.requires in
-    let some = present_in key (from key leaf) (all_of (drop (suc at) ls)) b.back there in
+    let some = some_left key ls at b (ap (λ i. is_some (filed_at key (from key i.entries))) c.self.view_is ∙ c.requires) in
     let all : all_of c.mark.new.leaves.items ≡ below key es ++ mark_at marks 0 (from key es) = ap all_of c.mark.ensures.items ∙ mark_all marks key ls at b some in
     let long : length (all_of c.mark.new.leaves.items) ≡ length es =
     omega (
