@@ -4,9 +4,8 @@ use Rattle.std.specs.FinMap as finite
 use Rattle.ledger_model.{specs.declared.reading.Direction.Direction, specs.Key.{KeyName, key_cmp}, specs.Limits.Bounds, specs.Content.{Entry, Stored, has_transaction, transactions_of}, specs.Step.readings_stored, specs.Entries.IsRising}
 use Rattle.slot_arena.specs.Arena.{held_count}
 use Rattle.key_index.specs.Key.{rank}
-use Rattle.event_chain.{specs.Placed.{Index, index}, specs.declared.row.TableRow.TableRow, specs.Table.{Table, TxRow, row_of}, specs.declared.answers.Room.TheVariants.{Fits, NoTransaction, NoEvent, NoReading}, specs.Room.{room_of}, specs.Flat.{EventPlace, place_of, event_at, flat, look}, specs.Edits.{place_at}, specs.Kept.{IsChains, IsNamed, IsEntered, events_of}, proofs.Decided.not_so, proofs.Flats.{find_flat, flat_rising}, proofs.Moves.before_named, proofs.Named.{row_here, row_other}, proofs.Figures.known_figures, proofs.Ids.{ids_flat, has_flat}}
+use Rattle.event_chain.{specs.Placed.{Index, index}, specs.declared.row.TableRow.TableRow, specs.Table.{Table, TxRow, row_of}, specs.declared.answers.Room.TheVariants.{Fits, NoTransaction, NoEvent, NoReading}, specs.Room.room_of, specs.Flat.{EventPlace, place_of, event_at, flat, look}, specs.Edits.place_at, specs.Kept.{IsChains, IsNamed, IsEntered, events_of}, proofs.Decided.not_so, proofs.Flats.{find_flat, flat_rising}, proofs.Moves.before_named, proofs.Named.{row_here, row_other}, proofs.Figures.known_figures, proofs.Ids.{ids_flat, has_flat}, specs.Chains.{Chained, stored as stored_of}}
 use Rattle.event_store.specs.Slots.{Held, Slots}
-use Rattle.event_chain.specs.Chains.{Chained, stored as stored_of}
 
 -- Chains of equal parts.
 pub seal : (limits : Bounds) (t : Table) (s : Slots) (st l : Index) (c : Direction → Index) (n : Index) (rows : List TxRow)

@@ -1,7 +1,7 @@
 -- What chains keep after each operation.
 use Rattle.std.{proofs.Common.{◌≡◌, ℕ, ◌+◌, ◌<◌, ◌/◌, ◌^◌, Bool, true, false, not, cond, ◌&&◌, List, Option, Some, None, is_some, length, set, sum_by, refl, sym, ap, ◌∙◌, subst, arith, inl, inr, length-set, get_or-set_same}, specs.Ordering.{eq_by_cmp, nat_cmp}, specs.Cmp.nat_cmp_total, specs.FinMap.{find, put}, specs.FinMap.Entries.{is_sorted-put, length-put, length_without}, proofs.lemmas.Slice.Eq.bytes_eq-Decides, proofs.lemmas.List.Sums.sum_by-set}
 use Rattle.ledger_model.{specs.Deltas.first_reading, specs.declared.reading.Direction.Direction, specs.Event.{EventContent, toward}, specs.Key.{KeyName, key_cmp}, specs.Limits.Bounds, specs.Content.{Entry, Stored}, specs.Entries.{IsRising, entries_without}, proofs.Callers.key_total}
-use Rattle.event_chain.{proofs.Decided.{id_test, denied}, specs.Placed.{index}, specs.declared.row.TableRow.TableRow, specs.Table.{TxRow, AreRising, AreApart, id_cmp, row_of}, specs.Flat.{EventPlace, place_of, stored_in, stored_at, event_at, flat}, specs.Edits.{put_if, out}, specs.Kept.{AreRanks, IsSub, is_live, is_carrier, is_naming, is_end, live_one, end_one, IsKeyed, AreIndexed, AreFigured, IsCounted, IsChains, IsNamed, IsLeft, chosen}, proofs.Flats.flat_rising, proofs.Looks.IsMove, proofs.Moves.{put_move, mark_move, out_move, put_keyed, mark_keyed, out_keyed, put_here, out_here}, proofs.Subs.{sub_move, put_if_ranks, put_if_others, put_if_here, out_if_ranks, out_if_others}, proofs.Figures.{figured_put, figured_out}, proofs.Sums.{at_key, sum_put, sum_without}, proofs.Effects.{found_before, flat_put, flat_out}}
+use Rattle.event_chain.{proofs.Decided.{id_test, denied}, specs.Placed.index, specs.declared.row.TableRow.TableRow, specs.Table.{TxRow, AreRising, AreApart, id_cmp, row_of}, specs.Flat.{EventPlace, place_of, stored_in, stored_at, event_at, flat}, specs.Edits.{put_if, out}, specs.Kept.{AreRanks, IsSub, is_live, is_carrier, is_naming, is_end, live_one, end_one, IsKeyed, AreIndexed, AreFigured, IsCounted, IsChains, IsNamed, IsLeft, chosen}, proofs.Flats.flat_rising, proofs.Looks.IsMove, proofs.Moves.{put_move, mark_move, out_move, put_keyed, mark_keyed, out_keyed, put_here, out_here}, proofs.Subs.{sub_move, put_if_ranks, put_if_others, put_if_here, out_if_ranks, out_if_others}, proofs.Figures.{figured_put, figured_out}, proofs.Sums.{at_key, sum_put, sum_without}, proofs.Effects.{found_before, flat_put, flat_out}}
 use Rattle.slot_arena.specs.Arena.{value_at, held_count}
 use Rattle.key_index.specs.Key.{rank}
 use Rattle.event_store.specs.Slots.{Held}

@@ -1,6 +1,6 @@
 -- The figures of a reached content are within its limits.
 use Rattle.std.{proofs.Common.{◌≡◌, ℕ, ◌+◌, ◌*◌, ◌<◌, ◌≤◌, true, not, cond, List, [], ◌∷◌, length, map, refl, ap, ◌∙◌, arith, bytes_eq}, specs.Prelude.{sum_by, count_by}, specs.List.{All, filter, list_any, slice_index_or}, specs.FinMap.entries_sorted, proofs.Math.Nat.mul-le-mul_left, proofs.lemmas.Cmp.nat_list_eq_equiv, proofs.lemmas.List.{get_or-map, length-map}, proofs.lemmas.List.Elements.All-filter, proofs.lemmas.List.Filters.{length-filter_both, sum_by-filter_both}, proofs.lemmas.List.Folds.list_any_at, proofs.lemmas.List.Sums.{sum_by-cons, sum_by-le, sum_by-le-sum_by, count_by-le-length, length-filter}}
-use Rattle.ledger_model.{specs.Ranges.{greatest_reading, sequence_end}, specs.declared.reading.Direction.Direction, specs.declared.reading.Direction.TheVariants.{Import, Export}, specs.Event.{MeterReading, same_direction, toward}, specs.Limits.Bounds, specs.Content.{Content, Entry, entries, live, live_of, transactions_of}, specs.declared.order.Order.Order, specs.Energy.{all_pairs_by, difference, followed, pairs_by, readings_by, readings_of}, specs.Gaps.{numbers_of, missing}, specs.Complete.is_complete, specs.InTime.{in_order}, specs.ReadingOrder.taken_when, specs.Board.{figures, figures_by, last_or_zero}, specs.BoardLaws.AreRising, specs.Entries.IsRising, specs.Figures.AreWithin, specs.Step.{Reached, readings_stored}, proofs.GapLemmas.missing-fills, proofs.NumberLemmas.rising_from_sorted, proofs.InTimeLemmas.{order-length, order-sum}, proofs.SumLemmas.{sum_by-const, sum_by-flat_map, sum_by-same, sum_by_keys}, proofs.SumsByTransaction.{once, same_text}, proofs.Transactions.{ids, transactions-filter}, proofs.Bounds.{AreEntries, AreEntries-filter, AreKept-reached}}
+use Rattle.ledger_model.{specs.Ranges.{greatest_reading, sequence_end}, specs.declared.reading.Direction.Direction, specs.declared.reading.Direction.TheVariants.{Import, Export}, specs.Event.{MeterReading, same_direction, toward}, specs.Limits.Bounds, specs.Content.{Content, Entry, entries, live, live_of, transactions_of}, specs.declared.order.Order.Order, specs.Energy.{all_pairs_by, difference, followed, pairs_by, readings_by, readings_of}, specs.Gaps.{numbers_of, missing}, specs.Complete.is_complete, specs.InTime.in_order, specs.ReadingOrder.taken_when, specs.Board.{figures, figures_by, last_or_zero}, specs.BoardLaws.AreRising, specs.Entries.IsRising, specs.Figures.AreWithin, specs.Step.{Reached, readings_stored}, proofs.GapLemmas.missing-fills, proofs.NumberLemmas.rising_from_sorted, proofs.InTimeLemmas.{order-length, order-sum}, proofs.SumLemmas.{sum_by-const, sum_by-flat_map, sum_by-same, sum_by_keys}, proofs.SumsByTransaction.{once, same_text}, proofs.Transactions.{ids, transactions-filter}, proofs.Bounds.{AreEntries, AreEntries-filter, AreKept-reached}}
 
 -- the entries of a transaction
 abbrev of_one : List ℕ → List Entry → List Entry

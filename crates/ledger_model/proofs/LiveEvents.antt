@@ -1,6 +1,6 @@
 -- Boards depend on live events and the order of readings, except for how many are voided.
 use Rattle.std.{proofs.Common.{◌≡◌, ℕ, List}, proofs.Math.Path.fun_ext}
-use Rattle.ledger_model.{specs.Periods.Periods, specs.declared.reading.Direction.Direction, specs.declared.order.Order.Order, specs.declared.order.Order.TheVariants.{Sequence, Moment}, specs.Board.{board_by, figures_by, shown_by}, specs.Content.{Entry, live}, specs.Energy.{readings_by, readings_of}, specs.InTime.{AreInTime}, specs.ReadingOrder.taken_when, proofs.InTimeLemmas.in_time-same}
+use Rattle.ledger_model.{specs.Periods.Periods, specs.declared.reading.Direction.Direction, specs.declared.order.Order.Order, specs.declared.order.Order.TheVariants.{Sequence, Moment}, specs.Board.{board_by, figures_by, shown_by}, specs.Content.{Entry, live}, specs.Energy.{readings_by, readings_of}, specs.InTime.AreInTime, specs.ReadingOrder.taken_when, proofs.InTimeLemmas.in_time-same}
 
 pub live_alone : (order : Order) (period : Periods) (es fs : List Entry) → live es ≡ live fs
     → board_by order period es ≡ record (board_by order period fs) { figures = record (figures_by order fs) { voided = (figures_by order es).voided } }

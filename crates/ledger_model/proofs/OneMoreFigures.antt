@@ -1,7 +1,7 @@
 -- How figures and energies change with one more live event.
 use Rattle.std.{proofs.Common.{◌≡◌, ℕ, ◌+◌, ◌==◌, Bool, true, false, cond, ◌&&◌, List, ◌∷◌, Option, Some, None, is_some, length, map, refl, sym, ap, ◌∙◌, arith}, specs.List.{filter, sum_by, count_by}, specs.FinMap.Entries.{find, put, length-put}, proofs.lemmas.List.{length-append, length-map}}
 use Rattle.energy_flow.specs.Flow.{Energy, plus}
-use Rattle.ledger_model.{specs.Periods.Periods, specs.declared.reading.Direction.Direction, specs.declared.command.Command.TheVariants.{Deliver, Void, Restore, Erase}, specs.Event.EventContent, specs.Key.{KeyName, key_cmp}, specs.Content.{Entry, Stored, live, transactions_of, has_transaction}, specs.Entries.{IsRising, entries_after, entries_without, entries_marked_at}, specs.declared.order.Order.Order, specs.Energy.{Pair, difference, energy_of_by, pairs, parts_of, parts_over}, specs.Parts.Part, specs.Evse.{evse_of, energy_at_by}, specs.Gaps.{missing, numbers_of}, specs.Complete.{is_complete, starts_and_ends}, specs.Deltas.{IsOneMore, came_by, flow_if, gone_by}, proofs.Keys.{key_total}, proofs.Cuts.{behind, cut, cut_at, in_front, map_put_old}, proofs.Transactions.transactions_added, proofs.FigureBounds.live_and_voided, proofs.OneMore.{live_else, by_transaction_sums, station_moved, transaction_moved, passed_sum, taken}, proofs.OrderLemmas.evse_sums, proofs.SumLemmas.sum_by-flat_map, specs.DeltaLaws.EnergiesMove, proofs.EnergyLemmas.same_energy, proofs.OneMoreByCommand.{delivered_more, restored_more, voided_less, erased_same}}
+use Rattle.ledger_model.{specs.Periods.Periods, specs.declared.reading.Direction.Direction, specs.declared.command.Command.TheVariants.{Deliver, Void, Restore, Erase}, specs.Event.EventContent, specs.Key.{KeyName, key_cmp}, specs.Content.{Entry, Stored, live, transactions_of, has_transaction}, specs.Entries.{IsRising, entries_after, entries_without, entries_marked_at}, specs.declared.order.Order.Order, specs.Energy.{Pair, difference, energy_of_by, pairs, parts_of, parts_over}, specs.Parts.Part, specs.Evse.{evse_of, energy_at_by}, specs.Gaps.{missing, numbers_of}, specs.Complete.{is_complete, starts_and_ends}, specs.Deltas.{IsOneMore, came_by, flow_if, gone_by}, proofs.Keys.key_total, proofs.Cuts.{behind, cut, cut_at, in_front, map_put_old}, proofs.Transactions.transactions_added, proofs.FigureBounds.live_and_voided, proofs.OneMore.{live_else, by_transaction_sums, station_moved, transaction_moved, passed_sum, taken}, proofs.OrderLemmas.evse_sums, proofs.SumLemmas.sum_by-flat_map, specs.DeltaLaws.EnergiesMove, proofs.EnergyLemmas.same_energy, proofs.OneMoreByCommand.{delivered_more, restored_more, voided_less, erased_same}}
 
 -- One event more is live.
 pub events_more : (es more front : List Entry) (e : Entry) (back : List Entry) → IsOneMore es more front e back → length (live more) ≡ length (live es) + 1

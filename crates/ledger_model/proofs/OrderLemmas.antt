@@ -1,6 +1,6 @@
 -- The readings of a transaction in either order, with one event more.
 use Rattle.std.{proofs.Common.{◌≡◌, ℕ, ◌+◌, ◌*◌, ◌≤◌, Bool, true, false, not, ◌||◌, List, [], ◌∷◌, ◌++◌, length, map, refl, sym, ap, subst, ◌∙◌, bytes_eq, eqb, nat_lt, arith}, specs.List.{All, filter, flat_map, sum_by, zip}, proofs.Math.Path.fun_ext, proofs.lemmas.Bool.{eq-eqb, ltb-true, ne_eqb}, proofs.lemmas.Grind.flat_map-append, proofs.lemmas.List.{append-nil, length-map, map-append, map-id}, proofs.lemmas.Simd.map-map, proofs.lemmas.List.Elements.{All-head, All-tail, All-weaker, filter-append, filter_passes}}
-use Rattle.ledger_model.{specs.declared.order.Order.Order, specs.declared.order.Order.TheVariants.{Sequence}, specs.declared.reading.Direction.Direction, specs.Content.{Entry, live, live_of, transactions_of}, specs.Deltas.{before_key, behind_key, own_events, IsOneMore}, specs.Energy.{Pair, all_pairs_by, followed, pairs_by, readings_by, readings_of}, specs.Event.{MeterReading, toward}, specs.Evse.{evse_of, transactions_at}, specs.InTime.{across_runs, in_order, in_pairs, runs}, specs.ReadingOrder.{Numbered, bare, is_own, numbered, numbered_by, pairs_across, pairs_with, runs_of}, proofs.InTimeLemmas.{order-length, order-map, order-nil, order-passed}, proofs.KeysByNumber.{own_before_key, own_behind_key}, proofs.OneMore.{by_transaction_sums, evse_else, live_else, live_with, live_without, nothing_taken, passed_sum, taken}, proofs.RunLemmas.{AreForeign, AreOwn, few_by_runs, foreign_passed, one_run, own_passed, runs_sums}, proofs.SumLemmas.{sum_by-flat_map, sum_by-map}}
+use Rattle.ledger_model.{specs.declared.order.Order.Order, specs.declared.order.Order.TheVariants.Sequence, specs.declared.reading.Direction.Direction, specs.Content.{Entry, live, live_of, transactions_of}, specs.Deltas.{before_key, behind_key, own_events, IsOneMore}, specs.Energy.{Pair, all_pairs_by, followed, pairs_by, readings_by, readings_of}, specs.Event.{MeterReading, toward}, specs.Evse.{evse_of, transactions_at}, specs.InTime.{across_runs, in_order, in_pairs, runs}, specs.ReadingOrder.{Numbered, bare, is_own, numbered, numbered_by, pairs_across, pairs_with, runs_of}, proofs.InTimeLemmas.{order-length, order-map, order-nil, order-passed}, proofs.KeysByNumber.{own_before_key, own_behind_key}, proofs.OneMore.{by_transaction_sums, evse_else, live_else, live_with, live_without, nothing_taken, passed_sum, taken}, proofs.RunLemmas.{AreForeign, AreOwn, few_by_runs, foreign_passed, one_run, own_passed, runs_sums}, proofs.SumLemmas.{sum_by-flat_map, sum_by-map}}
 pub use Rattle.ledger_model.proofs.InTimeLemmas.{order-nil}
 
 map-flat : {X Y Z : Type 0} (g : Y → Z) (h : X → List Y) (xs : List X) → map g (flat_map h xs) ≡ flat_map (λ x. map g (h x)) xs

@@ -1,5 +1,5 @@
 -- A live event that comes or goes where the readings are by sequence, and where they are by moment.
-use Rattle.std.{proofs.Common.{arith, ◌≡◌, Bool, true, false, List, [], ◌∷◌, ◌++◌, Option, Some, None, IfSome, refl, sym, ap, subst, ◌∙◌}, specs.List.filter, specs.Ordering.is_lt, specs.declared.cmp.Ordering.TheVariants.{Less}, proofs.lemmas.List.append-nil, proofs.lemmas.List.Elements.filter-append}
+use Rattle.std.{proofs.Common.{arith, ◌≡◌, Bool, true, false, List, [], ◌∷◌, ◌++◌, Option, Some, None, IfSome, refl, sym, ap, subst, ◌∙◌}, specs.List.filter, specs.Ordering.is_lt, specs.declared.cmp.Ordering.TheVariants.Less, proofs.lemmas.List.append-nil, proofs.lemmas.List.Elements.filter-append}
 use Rattle.ledger_model.{specs.declared.by_direction.ByDirection.ByDirection, specs.declared.order.Order.TheVariants.Moment, specs.Content.{Entry, Stored, live}, specs.Deltas.{IsOneMore, before_key, behind_key}, specs.Key.{KeyName, key_cmp}, specs.Limits.Bounds, proofs.Callers.turned}
 use Rattle.event_chain.{specs.Chains.{Chained, stored}, specs.Room.readings_under, specs.declared.around.Sides.Sides}
 use Rattle.station_ledger.{specs.declared.by_moment.ByMoment.ByMoment, specs.declared.sums.Sums.Sums, specs.declared.pairs.Way.Way, specs.declared.pairs.Way.TheVariants.{Coming, Going}, specs.ByMoment.AreByMoment, specs.Exchange.IsMove, specs.Spent.most_at, specs.Runs.by_way, specs.Sums.{AreAllowed, AreQuarterRows, AreTurning, IsTurning, order_in, order_of}, proofs.Changes.{IsChange, came_sides, gone_sides, turned_pairs}}

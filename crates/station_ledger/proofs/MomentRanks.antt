@@ -1,6 +1,6 @@
 -- Readings by rank: what a rank says, and how lists by rank change.
 use Rattle.std.{proofs.Common.{◌≡◌, ℕ, ◌+◌, ◌*◌, ◌/◌, ◌%◌, ◌^◌, ◌<◌, ◌≤◌, Bool, true, false, cond, not, List, [], ◌∷◌, ◌++◌, length, refl, ap, ◌∙◌, eqb, arith}, specs.List.filter, proofs.lemmas.Nat.{div-mul-add, mod-mul-add}, proofs.lemmas.Bool.Decides.nat_tests, proofs.lemmas.Bool.{eq-eqb, ne_eqb}}
-use Rattle.ledger_model.{specs.declared.reading.Direction.Direction, specs.declared.reading.Direction.TheVariants.{Import, Export}, specs.InTime.{put_in_time, AreInTime}, proofs.Callers.{put-passed}}
+use Rattle.ledger_model.{specs.declared.reading.Direction.Direction, specs.declared.reading.Direction.TheVariants.{Import, Export}, specs.InTime.{put_in_time, AreInTime}, proofs.Callers.put-passed}
 use Rattle.reading_index.{specs.Ranks.{number_of, owner, owner_of, place_of, rank}, specs.Timed.{Timed, from_on, has_rank, in_front, owned, without, AreAbove, AreRising}}
 use Rattle.key_index.proofs.Orders.{above_less}
 use Rattle.station_ledger.specs.ByMoment.{put_each}

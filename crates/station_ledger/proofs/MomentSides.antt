@@ -3,10 +3,10 @@
 use Rattle.std.{proofs.Common.{◌≡◌, ℕ, ◌+◌, ◌*◌, ◌<◌, ◌≤◌, ◌^◌, Bool, true, false, cond, not, ◌&&◌, List, [], ◌∷◌, ◌++◌, length, map, refl, sym, ap, subst, ◌∙◌, arith, length-append}, specs.List.{AllByRecursion, filter, flat_map, list_any, sum_by}, specs.Str.bytes_eq, proofs.lemmas.List.length-map, proofs.lemmas.List.Sums.sum_by-append}
 use Rattle.energy_flow.specs.Flow.{plus}
 use Rattle.event_chain.specs.Chains.{Chained}
-use Rattle.ledger_model.{proofs.EnergyLemmas.same_energy, specs.Periods.Periods, specs.declared.order.Order.TheVariants.Moment, specs.declared.reading.Direction.Direction, specs.declared.reading.Direction.TheVariants.{Import, Export}, specs.Board.Flowed, specs.ByDirection.{flows_toward}, specs.Content.{Entry, live, transactions_of}, specs.Deltas.{before_key, behind_key}, specs.Energy.{Pair, all_pairs_by, difference, energy_by, energy_of_by, energy_over, followed, pairs_by, quarter_of}, specs.Event.{MeterReading, toward}, specs.InTime.{in_time, runs, runs_behind}, specs.Key.KeyName, specs.Ranges.{greatest_reading, most_event_readings, most_readings}, specs.ReadingOrder.{is_own, numbered_by}, proofs.Callers.{IsEntry, few_toward, own_numbered, station_moves, sum_by-flat_map, sum_by-map, transaction_moves}, proofs.SumsByTransaction.sum_by_one, proofs.TransactionLemmas.any-map}
+use Rattle.ledger_model.{proofs.EnergyLemmas.same_energy, specs.Periods.Periods, specs.declared.order.Order.TheVariants.Moment, specs.declared.reading.Direction.Direction, specs.declared.reading.Direction.TheVariants.{Import, Export}, specs.Board.Flowed, specs.ByDirection.flows_toward, specs.Content.{Entry, live, transactions_of}, specs.Deltas.{before_key, behind_key}, specs.Energy.{Pair, all_pairs_by, difference, energy_by, energy_of_by, energy_over, followed, pairs_by, quarter_of}, specs.Event.{MeterReading, toward}, specs.InTime.{in_time, runs, runs_behind}, specs.Key.KeyName, specs.Ranges.{greatest_reading, most_event_readings, most_readings}, specs.ReadingOrder.{is_own, numbered_by}, proofs.Callers.{IsEntry, few_toward, own_numbered, station_moves, sum_by-flat_map, sum_by-map, transaction_moves}, proofs.SumsByTransaction.sum_by_one, proofs.TransactionLemmas.any-map}
 use Rattle.quarter_table.{specs.Pairs.rows_of, specs.Table.Table, proofs.Made.made_alike}
 use Rattle.reading_index.{specs.Ranks.{number_of, owner}, specs.Timed.{Timed, TimedReadings, AreRising, owned}}
-use Rattle.station_ledger.{specs.declared.by_moment.ByMoment.ByMoment, specs.declared.by_moment.Moved.Moved, specs.ByMoment.{live_readings, listed_of, put_each, ranked, ranked_from, take_each, timed_of}, specs.Exchange.IsMove, specs.Quarters.{IsWork, quartered, readings_at}, specs.declared.pairs.Way.Way, specs.declared.pairs.Way.TheVariants.{Coming, Going}, specs.Runs.{AreApart, AreExchanged, AreFew, AreMoved, AreToMove, CanMove, HaveMoved, HavePlace, by_way, came_of, gone_of, moved_each, moved_index, own_timed, pairs_among, side}, specs.Spent.{most_by_moment}, proofs.Bounded.{both_ways, few_pairs, few_station, part_le, IsUpTo}, proofs.MomentIndexes.{AreOf, fewer-take_each, own_puttable, owned-put_each, owned-put_each_else, owned-take_each, owned-take_each_else, ranked-put_each, ranked-take_each}, proofs.MomentLists.{bare-timed, come, foreign, go, it_in_range, length-listed, listed-owned, listed-own, listed-ranked, listed_each, live_readings-more, numbered-timed, stand_foreign, timed-ranked}, proofs.MomentRanks.{length-put_each, owner-apart}, proofs.MomentWalks.followed_fewer, proofs.Moved.none_live, proofs.Rows.{long, other, up_append, down_append, up_quartered, down_quartered}, proofs.Trades.ones}
+use Rattle.station_ledger.{specs.declared.by_moment.ByMoment.ByMoment, specs.declared.by_moment.Moved.Moved, specs.ByMoment.{live_readings, listed_of, put_each, ranked, ranked_from, take_each, timed_of}, specs.Exchange.IsMove, specs.Quarters.{IsWork, quartered, readings_at}, specs.declared.pairs.Way.Way, specs.declared.pairs.Way.TheVariants.{Coming, Going}, specs.Runs.{AreApart, AreExchanged, AreFew, AreMoved, AreToMove, CanMove, HaveMoved, HavePlace, by_way, came_of, gone_of, moved_each, moved_index, own_timed, pairs_among, side}, specs.Spent.most_by_moment, proofs.Bounded.{both_ways, few_pairs, few_station, part_le, IsUpTo}, proofs.MomentIndexes.{AreOf, fewer-take_each, own_puttable, owned-put_each, owned-put_each_else, owned-take_each, owned-take_each_else, ranked-put_each, ranked-take_each}, proofs.MomentLists.{bare-timed, come, foreign, go, it_in_range, length-listed, listed-owned, listed-own, listed-ranked, listed_each, live_readings-more, numbered-timed, stand_foreign, timed-ranked}, proofs.MomentRanks.{length-put_each, owner-apart}, proofs.MomentWalks.followed_fewer, proofs.Moved.none_live, proofs.Rows.{long, other, up_append, down_append, up_quartered, down_quartered}, proofs.Trades.ones}
 
 -- The pairs of a direction of the transactions other than one.
 abbrev pub others_in : Direction → List ℕ → List Entry → List Pair

@@ -2,10 +2,10 @@
 use Rattle.std.{proofs.Common.{◌≡◌, ℕ, zero, suc, ◌+◌, ◌-◌, ◌*◌, ◌≤◌, Bool, true, false, nat_lt, List, [], ◌∷◌, ◌++◌, Option, length, slice_get, refl, sym, ap, ◌∙◌, arith, length-append}, specs.List.{AllByRecursion, sum_by}, proofs.lemmas.Bool.Decides.nat_tests, proofs.lemmas.List.{map-append, length-map}, proofs.lemmas.List.Elements.filter-append, proofs.lemmas.List.Sums.sum_by-append}
 use Rattle.energy_flow.specs.Flow.{Energy}
 use Rattle.ledger_model.{specs.Periods.Periods, specs.Board.Flowed, specs.Deltas.{pairs_between, first_reading, last_reading}, specs.Energy.{Pair, energy_over, followed}, specs.declared.reading.Direction.Direction, specs.Event.MeterReading, specs.InTime.{put_in_time, runs, runs_behind}, specs.Ranges.{greatest_reading, most_readings}, proofs.Callers.{AreForeign, AreOwn, followed_cut, put-behind, put-front, runs_own, runs_foreign}}
-use Rattle.quarter_table.{specs.Table.Table, specs.Pairs.{rows_of}, proofs.Made.made_alike}
+use Rattle.quarter_table.{specs.Table.Table, specs.Pairs.rows_of, proofs.Made.made_alike}
 use Rattle.key_index.proofs.Orders.{above_parts, above_less}
 use Rattle.reading_index.specs.Timed.{Timed, first_of, in_front, last_of, AreAbove, AreRising, AreBelow}
-use Rattle.station_ledger.{specs.ByMoment.{bare, bare_one, beyond, fitting, put_each}, specs.Runs.AreFew, specs.Quarters.{HasRoom, quartered}, proofs.MomentRanks.at, proofs.Rows.{long, up_append, down_append, up_quartered, down_quartered}, proofs.Walks.{quartered-append}}
+use Rattle.station_ledger.{specs.ByMoment.{bare, bare_one, beyond, fitting, put_each}, specs.Runs.AreFew, specs.Quarters.{HasRoom, quartered}, proofs.MomentRanks.at, proofs.Rows.{long, up_append, down_append, up_quartered, down_quartered}, proofs.Walks.quartered-append}
 
 -- The pairs of readings, with a run of some in a gap and without.
 pub with_run : (front run back : List Timed)

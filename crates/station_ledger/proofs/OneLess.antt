@@ -1,5 +1,5 @@
 -- What is kept of a transaction, when one more live event comes.
-use Rattle.std.{proofs.lemmas.Bool.Decides.nat_tests, proofs.Common.{◌≡◌, ◌==◌, ℕ, ◌+◌, ◌<◌, ◌≤◌, Bool, true, false, cond, List, [], ◌∷◌, ◌++◌, Option, None, Some, IfSome, length, map, slice_get, unwrap_or, refl, sym, ap, ◌∙◌, subst, arith, length-append}, specs.List.{filter_map}, proofs.lemmas.List.{length-map, map-append}}
+use Rattle.std.{proofs.lemmas.Bool.Decides.nat_tests, proofs.Common.{◌≡◌, ◌==◌, ℕ, ◌+◌, ◌<◌, ◌≤◌, Bool, true, false, cond, List, [], ◌∷◌, ◌++◌, Option, None, Some, IfSome, length, map, slice_get, unwrap_or, refl, sym, ap, ◌∙◌, subst, arith, length-append}, specs.List.filter_map, proofs.lemmas.List.{length-map, map-append}}
 use Rattle.energy_flow.specs.Flow.{Energy}
 use Rattle.ledger_model.{specs.declared.by_direction.ByDirection.ByDirection, specs.Board.last_or_zero, specs.BoardLaws.AreRising, specs.Content.{Entry, Stored, live_of}, specs.Deltas.{own_events, before_key, behind_key}, specs.Event.EventContent, specs.Evse.first_or_zero, specs.Gaps.{numbers_of, missing}, specs.Key.KeyName, proofs.Callers.{live_with, live_without}, proofs.GapLemmas.missing-fills}
 use Rattle.event_chain.{specs.Chains.{Chained, stored}, specs.declared.around.Sides.Sides}

@@ -1,6 +1,6 @@
 -- Each reading of events in range is at a moment, and so the period of each pair begins at one.
-use Rattle.std.{proofs.lemmas.Bool.Decides.nat_tests, proofs.Common.{◌≡◌, ℕ, zero, suc, ◌+◌, ◌-◌, ◌*◌, ◌<◌, ◌≤◌, ◌⊎◌, inl, inr, max, not, Bool, true, false, cond, List, [], ◌∷◌, ◌++◌, map, refl, sym, subst, arith, ⊎_elim}, specs.List.{All, AllByRecursion, flat_map}, specs.Str.bytes_eq, proofs.Math.Nat.{mul-le-mul_right}, proofs.lemmas.List.Elements.{All-nil, All-cons, All-append, recursion_from_All}}
-use Rattle.ledger_model.{specs.Periods.Periods, specs.BoardLaws.IsIn, specs.Content.{Entry, live, live_of, transactions_of}, specs.Energy.{Pair, all_pairs_by, change_of, followed, pairs_by, parts_of, parts_of_both, parts_over, readings_of}, specs.Parts.{Change, Part, is_shared, level_at, parts_by, shares, shares_from, whole}, specs.Event.{MeterReading, toward}, specs.InTime.{in_order}, specs.declared.order.Order.Order, specs.declared.order.Order.TheVariants.{Sequence, Moment}, specs.declared.reading.Direction.Direction, specs.declared.reading.Direction.TheVariants.{Import, Export}, specs.declared.settle.Settle.Settle, specs.declared.settle.Settle.TheVariants.{Later, Closing, Even}, specs.Moment.{IsMoment, first_moment}, specs.Settling.settled_by, specs.Quarter.{IsPeriod, IsQuarterOf, quarter_at}, proofs.Bounds.AreEntries-filter, proofs.Callers.AreEntries}
+use Rattle.std.{proofs.lemmas.Bool.Decides.nat_tests, proofs.Common.{◌≡◌, ℕ, zero, suc, ◌+◌, ◌-◌, ◌*◌, ◌<◌, ◌≤◌, ◌⊎◌, inl, inr, max, not, Bool, true, false, cond, List, [], ◌∷◌, ◌++◌, map, refl, sym, subst, arith, ⊎_elim}, specs.List.{All, AllByRecursion, flat_map}, specs.Str.bytes_eq, proofs.Math.Nat.mul-le-mul_right, proofs.lemmas.List.Elements.{All-nil, All-cons, All-append, recursion_from_All}}
+use Rattle.ledger_model.{specs.Periods.Periods, specs.BoardLaws.IsIn, specs.Content.{Entry, live, live_of, transactions_of}, specs.Energy.{Pair, all_pairs_by, change_of, followed, pairs_by, parts_of, parts_of_both, parts_over, readings_of}, specs.Parts.{Change, Part, is_shared, level_at, parts_by, shares, shares_from, whole}, specs.Event.{MeterReading, toward}, specs.InTime.in_order, specs.declared.order.Order.Order, specs.declared.order.Order.TheVariants.{Sequence, Moment}, specs.declared.reading.Direction.Direction, specs.declared.reading.Direction.TheVariants.{Import, Export}, specs.declared.settle.Settle.Settle, specs.declared.settle.Settle.TheVariants.{Later, Closing, Even}, specs.Moment.{IsMoment, first_moment}, specs.Settling.settled_by, specs.Quarter.{IsPeriod, IsQuarterOf, quarter_at}, proofs.Bounds.AreEntries-filter, proofs.Callers.AreEntries}
 use Rattle.station_ledger.proofs.Each.{each_append, each_in_time, each_toward}
 
 -- readings at moments

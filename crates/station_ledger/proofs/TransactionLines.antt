@@ -3,7 +3,7 @@ use Rattle.std.{proofs.lemmas.Bool.Decides.nat_tests, proofs.Common.{◌≡◌, 
 use Rattle.event_chain.specs.Chains.{Chained, stored}
 use Rattle.ledger_model.{specs.Board.last_or_zero, specs.Content.{Entry, live, transactions_of, has_transaction}, specs.declared.order.Order.Order, specs.Energy.flows_of_by, specs.Evse.first_or_zero, specs.Limits.Bounds, proofs.Rising.both, proofs.TransactionLemmas.{transactions-any, transactions_rise}}
 use Rattle.transaction_map.{specs.Map.{Mapped, AreRising, id_cmp}, proofs.Found.same_ids, proofs.Rising.{equal_ids, same_id}}
-use Rattle.station_ledger.{specs.declared.standing.Standing.Standing, specs.Standing.{kept_of, standing_by}, specs.Sums.AreStanding, proofs.EndNumbers.{kept_some}, proofs.Moved.none_live}
+use Rattle.station_ledger.{specs.declared.standing.Standing.Standing, specs.Standing.{kept_of, standing_by}, specs.Sums.AreStanding, proofs.EndNumbers.kept_some, proofs.Moved.none_live}
 
 -- ids with nothing else
 abbrev bare : List (List ℕ) → List (List ℕ × Unit {0})

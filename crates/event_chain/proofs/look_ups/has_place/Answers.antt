@@ -1,5 +1,5 @@
 use Rattle.std.{proofs.lemmas.Grind.common_steps, proofs.Common.{arith, sym, subst, ◌∙◌}}
-use Rattle.event_chain.{specs.Kept.{IsBare}, specs.Placed.Index, proofs.Places.ranks_of, proofs.Lives.{seg_some, seg_bare}}
+use Rattle.event_chain.{specs.Kept.IsBare, specs.Placed.Index, proofs.Places.ranks_of, proofs.Lives.{seg_some, seg_bare}}
 use Rattle.event_chain.proofs.look_ups.has_place.Goals as goal
 
 pub returns-clause-some : goal.returns-clause-some

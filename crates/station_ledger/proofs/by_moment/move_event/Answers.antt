@@ -1,8 +1,8 @@
-use Rattle.std.{proofs.Common.{◌≡◌, ◌<◌, ◌≤◌, Some, None, length, refl, sym, ap, subst, ◌∙◌}}
+use Rattle.std.proofs.Common.{◌≡◌, ◌<◌, ◌≤◌, Some, None, length, refl, sym, ap, subst, ◌∙◌}
 use Rattle.energy_flow.specs.Flow.{Energy}
 use Rattle.event_chain.{specs.Chains.stored, specs.Table.{Table, row_of, without_row}}
 use Rattle.ledger_model.{specs.Content.live_of, specs.Ranges.most_event_readings, specs.declared.by_direction.ByDirection.ByDirection, specs.declared.order.Order.TheVariants.Moment, specs.declared.reading.Direction.TheVariants.{Import, Export}}
-use Rattle.station_ledger.{specs.declared.by_moment.ByMoment.ByMoment, specs.ByMoment.{IsSlotGiven}, specs.Moved.IsExchanged, specs.Runs.by_way, proofs.MomentTurning.{all_then, few_readings, first_move, room_for_slot, rows_then, second_move, some_live, timed_then, work_then}, proofs.by_moment.move_event.Goals.{After-slot_of-slot}}
+use Rattle.station_ledger.{specs.declared.by_moment.ByMoment.ByMoment, specs.ByMoment.IsSlotGiven, specs.Moved.IsExchanged, specs.Runs.by_way, proofs.MomentTurning.{all_then, few_readings, first_move, room_for_slot, rows_then, second_move, some_live, timed_then, work_then}, proofs.by_moment.move_event.Goals.After-slot_of-slot}
 use Rattle.station_ledger.proofs.by_moment.move_event.Goals as goal
 
 pub slot_of-slot-requires : goal.slot_of-slot-requires

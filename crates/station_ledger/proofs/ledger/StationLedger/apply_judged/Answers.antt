@@ -1,6 +1,6 @@
 use Rattle.std.proofs.Common.{◌≡◌, rules, sym, ap, subst, ◌∙◌}
 use Rattle.ledger_model.{specs.declared.answer.Answer.TheVariants.Accepted, specs.Step.{Reached, answer}}
-use Rattle.station_ledger.{specs.Kept.{IsReady, content_in}, specs.Ledger.Ledger, proofs.Reaching.{can_do, kept_after}, proofs.ledger.StationLedger.apply_judged.Goals.{In-Accepted}}
+use Rattle.station_ledger.{specs.Kept.{IsReady, content_in}, specs.Ledger.Ledger, proofs.Reaching.{can_do, kept_after}, proofs.ledger.StationLedger.apply_judged.Goals.In-Accepted}
 use Rattle.station_ledger.proofs.ledger.StationLedger.apply_judged.Goals as goal
 
 accepted : (c : In-Accepted) → answer c.self.inside.limits (content_in c.self.inside.chains c.self.inside.changes) c.args.command ≡ Accepted c.in-Accepted.changes
