@@ -45,7 +45,8 @@ skip_missing k [] ys none = none
 skip_missing k (x ∷ xs) ys none = ap (cond (eqb x.quarter k) x) (skip_missing k xs ys none)
 
 -- The row of a period is found among some of the rows, where it is not one of those left out.
-among : (p : QuarterRow → Bool) (k : ℕ) (r : QuarterRow) (rs : List QuarterRow) → row_at k (filter p rs) ≡ row_at k rs → (p r ≡ false → r.quarter ≡ k → ⊥) → row_at k (filter p (r ∷ rs)) ≡ row_at k (r ∷ rs)
+among : (p : QuarterRow → Bool) (k : ℕ) (r : QuarterRow) (rs : List QuarterRow) → row_at k (filter p rs) ≡ row_at k rs → (p r ≡ false → r.quarter ≡ k → ⊥)
+    → row_at k (filter p (r ∷ rs)) ≡ row_at k (r ∷ rs)
 among p k r rs rest apart = cond_both (p r) _ _ (λ l. row_at k l ≡ row_at k (r ∷ rs)) (λ is. ap (cond (eqb r.quarter k) r) rest) (λ out. rest ∙ sym (row_other k r rs (apart out)))
 
 -- The row of an earlier period is found among the earlier ones.
