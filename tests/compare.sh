@@ -192,11 +192,6 @@ pages_with_program() {
     holds tables/month.said
 }
 
-# said_of_lines PROGRAM: what its help says of a script's lines.
-said_of_lines() {
-    "$1" --help | sed -n '/^A script has one line/,/UnknownTransaction\.$/p'
-}
-
 # written_as README: the commands of this page, with the program that is built and in a folder of their own, but for
 # those that build, and those of the fleet. Those that go on are ended by a signal after a while, as a user does.
 written_as() {
@@ -310,8 +305,6 @@ if [ -n "$replay" ]; then
     replays "$replay" replay
     burst "$replay"
     "$one" words.words "$replay" ../words/replay.txt || differs replay.txt
-    said=$(said_of_lines "$replay")
-    [ -z "$program" ] || { [ -n "$said" ] && [ "$said" = "$(said_of_lines "$program")" ]; } || differs "what help says of lines"
     gives 1 explain/mistakes.stderr "$board" explain --program "$replay" explain/mistakes.script
 fi
 
