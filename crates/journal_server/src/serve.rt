@@ -169,12 +169,13 @@ pub fn serve_restored<R: Host, I: Input, W: Output, T: Output, L: Output>(
         console,
         lines,
     };
-    let (plan, journalling) = (restored.draft.plan(), restoring.journalling);
+    let (cells, passes) = (restored.cells, restored.passes);
+    let journalling = restoring.journalling;
     match run_plan(
         rt,
-        plan,
-        restored.cells,
-        restored.passes,
+        restored.draft.plan(),
+        cells,
+        passes,
         journalling,
         input,
         ends,
