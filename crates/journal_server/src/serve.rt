@@ -170,16 +170,8 @@ pub fn serve_restored<R: Host, I: Input, W: Output, T: Output, L: Output>(
         lines,
     };
     let (cells, passes) = (restored.cells, restored.passes);
-    let journalling = restoring.journalling;
-    match run_plan(
-        rt,
-        restored.draft.plan(),
-        cells,
-        passes,
-        journalling,
-        input,
-        ends,
-    ) {
+    let plan = restored.draft.plan();
+    match run_plan(rt, plan, cells, passes, restoring.journalling, input, ends) {
         Ok(served) => Ok(served),
         Err(fault) => Err(JournalFault::Service(fault)),
     }

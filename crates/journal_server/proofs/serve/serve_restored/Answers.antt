@@ -9,12 +9,12 @@ returns-in-Ok-run_plan-clause-serves g c =
     let told = c.in-Ok.ensures.restored in
     let begun = g.W.Write.contents c.write_head.new.journal.inner in
     let begins = subst (Appends (writer_contents g.W.Write.contents c.args.journal) begun) (c.as_slice-2.ensures.value ∙ c.in-Ok-run_head.ensures) c.in_default-write_head.ensures.begins in
-    let sites = c.plan.result.now.sites.items in
-    let stations = c.plan.result.now.stations.items in
+    let sites = c.plan-plan.result.now.sites.items in
+    let stations = c.plan-plan.result.now.stations.items in
     let cells = restored.cells.items in
     let leaves : Leaves (told.0 ++ run_begins) sites stations cells =
-    subst (λ x. Leaves (told.0 ++ run_begins) x stations cells) (sym c.plan.ensures.sites)
-    (subst (λ x. Leaves (told.0 ++ run_begins) restored.draft.sites x cells) (sym c.plan.ensures.stations) (restored_after told.0 restored told.4)) in
+    subst (λ x. Leaves (told.0 ++ run_begins) x stations cells) (sym c.plan-plan.ensures.sites)
+    (subst (λ x. Leaves (told.0 ++ run_begins) restored.draft.sites x cells) (sym c.plan-plan.ensures.stations) (restored_after told.0 restored told.4)) in
     let ran = c.in-Ok-run_plan.ensures (told.0 ++ run_begins) leaves in
     record {
       read = told.0;
