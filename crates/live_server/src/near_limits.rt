@@ -26,14 +26,10 @@ impl StationLimits {
     // These limits; none was reported yet.
     fn of(limits: Limits) -> Self {
         let none = || AtomicBool::new(false);
-        let (transactions, events) = (limits.transactions(), limits.events());
+        let transactions = u64::from(limits.transactions());
+        let (events, readings) = (u64::from(limits.events()), u64::from(limits.readings()));
         StationLimits {
-            limits: [
-                transactions.into(),
-                events.into(),
-                limits.readings().into(),
-                limits.changes(),
-            ],
+            limits: [transactions, events, readings, limits.changes()],
             reported: [none(), none(), none(), none()],
         }
     }

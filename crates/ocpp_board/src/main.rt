@@ -19,11 +19,14 @@ mod station_words;
 
 use crate::run::{Streams, refuse_unread, run};
 use gathered_input::{Readiness, gathered};
-use server_parts::{Host, Output};
 use std::io::{Read, Write};
+use std::net::{Net, TcpListener, TcpStream};
 use std::process::ExitCode;
 use std::random::RandomSource;
 use std::rt::Env;
+use std::sync::Wait;
+use std::thread::Threads;
+use std::time::Clock;
 use std::{env, io};
 
 fn main(rt: HostRuntime) -> ExitCode {
@@ -34,12 +37,19 @@ fn main(rt: HostRuntime) -> ExitCode {
 
 // Runs the program with the words of the process, and gives its exit status.
 fn run_words<
-    X: Host + Env + RandomSource,
+    X: AllocGlobal
+        + Env
+        + Threads
+        + Wait
+        + Clock
+        + RandomSource
+        + Sync
+        + Net<Listener = TcpListener, Stream = TcpStream>,
     R: Read + Readiness + Drop,
-    W: Output,
-    C: Output,
+    W: Write + Send + Drop,
+    C: Write + Send + Drop,
     E: Write + Drop,
-    L: Output,
+    L: Write + Send + Drop,
 >(rt: &X, input: R, output: W, console: C, errors: E, lines: L) -> u8 {
     let streams = Streams {
         input,

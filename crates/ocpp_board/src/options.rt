@@ -319,7 +319,8 @@ fn sim_command<'a>(alloc: Global) -> Result<Command<'a>, AllocError>
         .about("Plays simulated stations against a server in the same process")
         .after_help(SIM_EXAMPLE);
     let command = with_option(command, stations_option(alloc))?;
-    with_option(command, events_option(alloc))
+    let command = with_option(command, events_option(alloc))?;
+    Ok(command)
 }
 
 fn stations_option<'a>(alloc: Global) -> Arg<'a>
