@@ -1,6 +1,6 @@
 -- What one post more changes, and that the totals are the sums over the rows.
 use Rattle.std.{proofs.Common.{◌≡◌, ◌≢◌, ℕ, zero, suc, ◌<◌, ◌≤◌, ◌+◌, ◌*◌, Bool, true, false, cond, not, ◌||◌, List, [], ◌∷◌, ◌++◌, refl, ap, sym, ◌∙◌, ⊎_elim, arith, map, eqb}, specs.Prelude.{sum_by, All}, specs.List.{range_with_len, slice_index_or}, proofs.lemmas.Bool.{eq-eqb, ne_eqb, eqb-true, cases_eq, or_parts, or_right}, proofs.lemmas.List.Elements.{All-head, All-tail}, proofs.lemmas.List.Folds.list_any-append}
-use Rattle.ledger_model.{specs.declared.figures.Figures.Figures, specs.Figures.no_figures, specs.Board.{plus_figures, sum_of_figures}, specs.Posts.{Post, has_post, row_after, totals_after}, proofs.SumLemmas.{sum_by-same, sum_by-none, sum_by-plus, sum_by-map, sum_by-count, times, times-here, times-other, taken}, proofs.FigureLemmas.{figure_of_sum, same_figures}}
+use Rattle.ledger_model.{specs.declared.figures.Figures.Figures, specs.Figures.{figure_at, no_figures}, specs.Board.{plus_figures, sum_of_figures}, specs.Posts.{Post, has_post, row_after, totals_after}, proofs.SumLemmas.{sum_by-same, sum_by-none, sum_by-plus, sum_by-map, sum_by-count, times, times-here, times-other, taken}, proofs.FigureLemmas.{at_none, at_plus, at_sum, same_figures}}
 
 or_false : (b : Bool) → (b || false) ≡ b
 or_false true = refl
@@ -29,7 +29,10 @@ row-push_other row other f (p ∷ ps) apart =
     ∙ ap (λ r. cond (has_post other ps) r (cond (eqb p.0 other) p.1 no_figures)) (row-push_other row other f ps apart)
 
 -- one figure of what one post more leaves
-module _ (figure : Figures → ℕ) (none : figure no_figures ≡ 0) (both : (a b : Figures) → figure (plus_figures a b) ≡ figure a + figure b) where
+module _ (k : ℕ) where
+  abbrev figure : Figures → ℕ
+  figure = figure_at k
+
   -- what a post counts: its figure, if no later post is for its row
   abbrev counts : Post → List Post → ℕ
   counts p ps = taken (not (has_post p.0 ps)) (figure p.1)
@@ -39,20 +42,20 @@ module _ (figure : Figures → ℕ) (none : figure no_figures ≡ 0) (both : (a 
     where
       by_case : (b : Bool) → figure (cond b (totals_after ps) (plus_figures p.1 (totals_after ps))) ≡ taken (not b) (figure p.1) + figure (totals_after ps)
       by_case true = omega arith
-      by_case false = both p.1 (totals_after ps)
+      by_case false = at_plus k p.1 (totals_after ps)
 
   row-cons : (row : ℕ) (p : Post) (ps : List Post) → figure (row_after row (p ∷ ps)) ≡ taken (eqb p.0 row) (counts p ps) + figure (row_after row ps)
-  row-cons row p ps = by_case (has_post row ps) (has_post p.0 ps) (eqb p.0 row) (λ e. ap (λ r. has_post r ps) (eqb-true p.0 row e)) (λ h. ap figure (row-none row ps h) ∙ none)
+  row-cons row p ps = by_case (has_post row ps) (has_post p.0 ps) (eqb p.0 row) (λ e. ap (λ r. has_post r ps) (eqb-true p.0 row e)) (λ h. ap figure (row-none row ps h) ∙ at_none k)
     where
       by_case : (b c e : Bool) → (e ≡ true → c ≡ b) → (b ≡ false → figure (row_after row ps) ≡ 0)
           → figure (cond b (row_after row ps) (cond e p.1 no_figures)) ≡ taken e (taken (not c) (figure p.1)) + figure (row_after row ps)
       by_case true c true same nothing = omega (arith, ap (λ b. taken (not b) (figure p.1)) (same refl))
       by_case true c false same nothing = omega arith
       by_case false c true same nothing = omega (arith, ap (λ b. taken (not b) (figure p.1)) (same refl), nothing refl)
-      by_case false c false same nothing = omega (arith, none, nothing refl)
+      by_case false c false same nothing = omega (arith, at_none k, nothing refl)
 
   figure-push : (row : ℕ) (f : Figures) (ps : List Post) → figure (totals_after (ps ++ (row, f) ∷ [])) + figure (row_after row ps) ≡ figure (totals_after ps) + figure f
-  figure-push row f [] = omega (arith, totals-cons (row, f) [])
+  figure-push row f [] = omega (arith, totals-cons (row, f) [], at_none k)
   figure-push row f (p ∷ ps) =
       let last = ap (λ b. taken (not b) (figure p.1)) (has-push row p.0 f ps ∙ ap (λ b. has_post p.0 ps || b) (turned row p.0)) in
       omega (
@@ -76,7 +79,7 @@ module _ (figure : Figures → ℕ) (none : figure no_figures ≡ 0) (both : (a 
 
   -- a figure of the totals is the sum of that figure over rows in which each posted row occurs once
   figure-rows : (rows : List ℕ) (ps : List Post) → All (λ p. times p.0 rows ≡ 1) ps → figure (totals_after ps) ≡ sum_by (λ row. figure (row_after row ps)) rows
-  figure-rows rows [] once = none ∙ sym (sum_by-same (λ row. figure no_figures) (λ row. 0) (λ row. none) rows ∙ sum_by-none rows)
+  figure-rows rows [] once = at_none k ∙ sym (sum_by-same (λ row. figure no_figures) (λ row. 0) (λ row. at_none k) rows ∙ sum_by-none rows)
   figure-rows rows (p ∷ ps) once =
       let one : times p.0 rows ≡ 1 = All-head (λ (q : Post). times q.0 rows ≡ 1) p ps once in
       omega (
@@ -104,9 +107,9 @@ once_below : (n : ℕ) (ps : List Post) → All (λ p. p.0 < n) ps → All (λ p
 once_below n ps below k d lt = let less : (slice_index_or ps k d).0 < n = below k d lt in times-range _ 0 n (omega arith) (omega arith)
 
 pub totals-rows : (n : ℕ) (ps : List Post) → All (λ p. p.0 < n) ps → totals_after ps ≡ sum_of_figures (map (λ row. row_after row ps) (range_with_len 0 n))
-totals-rows n ps below = same_figures _ _ (λ figure none both.
-    figure-rows figure none both (range_with_len 0 n) ps (once_below n ps below)
-    ∙ sym (figure_of_sum figure none both (map (λ row. row_after row ps) (range_with_len 0 n)) ∙ sum_by-map figure (λ row. row_after row ps) (range_with_len 0 n)))
+totals-rows n ps below = same_figures _ _ (λ k _.
+    figure-rows k (range_with_len 0 n) ps (once_below n ps below)
+    ∙ sym (at_sum k (map (λ row. row_after row ps) (range_with_len 0 n)) ∙ sum_by-map (figure_at k) (λ row. row_after row ps) (range_with_len 0 n)))
 
 pub totals-push : (row : ℕ) (f : Figures) (ps : List Post) → plus_figures (totals_after (ps ++ (row, f) ∷ [])) (row_after row ps) ≡ plus_figures (totals_after ps) f
-totals-push row f ps = same_figures _ _ (λ figure none both. both (totals_after (ps ++ (row, f) ∷ [])) (row_after row ps) ∙ figure-push figure none both row f ps ∙ sym (both (totals_after ps) f))
+totals-push row f ps = same_figures _ _ (λ k _. at_plus k (totals_after (ps ++ (row, f) ∷ [])) (row_after row ps) ∙ figure-push k row f ps ∙ sym (at_plus k (totals_after ps) f))

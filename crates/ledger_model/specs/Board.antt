@@ -1,6 +1,6 @@
-use Rattle.std.{specs.Prelude.{ℕ, Bool, List, [], ◌∷◌, ◌+◌, map, count_by, sum_by, length, ◌==◌, if◌then◌else◌}, specs.List.flat_map}
+use Rattle.std.{specs.Prelude.{ℕ, Bool, List, [], ◌∷◌, ◌+◌, map, count_by, sum_by, length, ◌==◌, if◌then◌else◌}, specs.List.{flat_map, zip}}
 use Rattle.energy_flow.specs.Flow.{Energy}
-use Rattle.ledger_model.{specs.Periods.Periods, specs.declared.reading.Direction.TheVariants.{Import, Export}, specs.declared.figures.Figures.Figures, specs.Figures.no_figures, specs.Content.{Entry, live, live_of, transactions_of}, specs.declared.order.Order.Order, specs.declared.order.Order.TheVariants.Sequence, specs.Energy.{energy_by, flows_in_by, flows_of_by, quarters_by, rising}, specs.ByDirection.{no_flows, plus_flows}, specs.declared.by_direction.ByDirection.ByDirection, specs.Evse.{evse_of, evses, flows_at_by, first_or_zero}, specs.Gaps.{Gap, numbers_of, gaps, missing}, specs.Complete.is_complete}
+use Rattle.ledger_model.{specs.Periods.Periods, specs.declared.reading.Direction.TheVariants.{Import, Export}, specs.declared.figures.Figures.Figures, specs.Figures.{figure_list, figures_from, no_figures}, specs.Content.{Entry, live, live_of, transactions_of}, specs.declared.order.Order.Order, specs.declared.order.Order.TheVariants.Sequence, specs.Energy.{energy_by, flows_in_by, flows_of_by, quarters_by, rising}, specs.ByDirection.{no_flows, plus_flows}, specs.declared.by_direction.ByDirection.ByDirection, specs.Evse.{evse_of, evses, flows_at_by, first_or_zero}, specs.Gaps.{Gap, numbers_of, gaps, missing}, specs.Complete.is_complete}
 
 -- The figures of a station, with the readings of each transaction in the given order: live and
 -- voided events; transactions with a live event, how many of these are complete, what they miss,
@@ -24,17 +24,7 @@ figures es = figures_by Sequence es
 
 -- The sum of both, number by number.
 abbrev pub plus_figures : Figures → Figures → Figures
-plus_figures a b = record {
-  events = a.events + b.events;
-  voided = a.voided + b.voided;
-  transactions = a.transactions + b.transactions;
-  complete = a.complete + b.complete;
-  missing = a.missing + b.missing;
-  up = a.up + b.up;
-  down = a.down + b.down;
-  export_up = a.export_up + b.export_up;
-  export_down = a.export_down + b.export_down;
-}
+plus_figures a b = figures_from (map (λ p. p.0 + p.1) (zip (figure_list a) (figure_list b)))
 
 -- The figures of a site: the sums over its stations.
 abbrev pub sum_of_figures : List Figures → Figures

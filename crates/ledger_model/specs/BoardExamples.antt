@@ -109,13 +109,22 @@ readings_again_counts = record { events = 4; voided = 0; transactions = 1; compl
 abbrev pub evse_moves : List Entry
 evse_moves = metered Started 0 0 1_000 ∷ told Updated 1 5 (Some 2) (reading 5 1_100 ∷ []) ∷ metered Ended 2 10 1_250 ∷ []
 
+abbrev pub evse_moves_counts : Figures
+evse_moves_counts = record { events = 3; voided = 0; transactions = 1; complete = 1; missing = 0; up = 250_000; down = 0; export_up = 0; export_down = 0 }
+
 -- That event is voided. After a restoration the events are those before.
 abbrev pub evse_voided : List Entry
 evse_voided = metered Started 0 0 1_000 ∷ voided (told Updated 1 5 (Some 2) (reading 5 1_100 ∷ [])) ∷ metered Ended 2 10 1_250 ∷ []
 
+abbrev pub evse_voided_counts : Figures
+evse_voided_counts = record { events = 2; voided = 1; transactions = 1; complete = 0; missing = 1; up = 250_000; down = 0; export_up = 0; export_down = 0 }
+
 -- Then the first event is voided.
 abbrev pub start_voided : List Entry
 start_voided = voided (metered Started 0 0 1_000) ∷ told Updated 1 5 (Some 2) (reading 5 1_100 ∷ []) ∷ metered Ended 2 10 1_250 ∷ []
+
+abbrev pub start_voided_counts : Figures
+start_voided_counts = record { events = 2; voided = 1; transactions = 1; complete = 0; missing = 0; up = 150_000; down = 0; export_up = 0; export_down = 0 }
 
 -- The lowest and the highest number that there can be, and the greatest fall.
 abbrev pub widest_gap : List Entry
@@ -131,6 +140,9 @@ exported =
     told Started 0 0 None (reading 0 1_000 ∷ fed_back 0 50 ∷ [])
     ∷ metered Updated 1 5 1_100
     ∷ told Ended 2 20 None (reading 20 1_100 ∷ fed_back 20 80 ∷ []) ∷ []
+
+abbrev pub exported_counts : Figures
+exported_counts = record { events = 3; voided = 0; transactions = 1; complete = 1; missing = 0; up = 100_000; down = 0; export_up = 30_000; export_down = 0 }
 
 -- One event with four readings, import and export in turn.
 abbrev pub in_turn : List Entry

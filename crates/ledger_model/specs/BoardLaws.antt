@@ -1,6 +1,6 @@
 use Rattle.std.{specs.Prelude.{ℕ, List, [], ◌∷◌, ◌≡◌, ◌≢◌, ◌<◌, ◌≤◌, ◌+◌, ◌-◌, ◌⊎◌, Some, length, map, sum_by}, specs.List.{flat_map, slice_get}}
 use Rattle.energy_flow.specs.Flow.{Energy, no_energy, plus}
-use Rattle.ledger_model.{specs.Periods.Periods, specs.declared.figures.Figures.Figures, specs.declared.kind.Kind.Kind, specs.declared.kind.Kind.TheVariants.{Started, Ended}, specs.declared.order.Order.Order, specs.Board.{Board, Flowed, board_by}, specs.Content.Entry, specs.ByDirection.in_each, specs.declared.by_direction.ByDirection.ByDirection, specs.Energy.energy_in_by, specs.Gaps.Gap}
+use Rattle.ledger_model.{specs.Periods.Periods, specs.declared.figures.Figures.Figures, specs.Figures.figure_at, specs.declared.kind.Kind.Kind, specs.declared.kind.Kind.TheVariants.{Started, Ended}, specs.declared.order.Order.Order, specs.Board.{Board, Flowed, board_by}, specs.Content.Entry, specs.ByDirection.in_each, specs.declared.by_direction.ByDirection.ByDirection, specs.Energy.energy_in_by, specs.Gaps.Gap}
 
 -- Rising numbers: each is below the next.
 abbrev pub AreRising : List ℕ → Type 0
@@ -61,14 +61,6 @@ flows_over order period quarter stations = in_each (λ d. sum_of_energies (map (
 abbrev pub with_voided : ℕ → Board → Board
 with_voided voided board = record board { figures = record board.figures { voided = voided } }
 
--- Each figure is the sum of that figure over these.
-pub record AreSums (total : Figures) (fs : List Figures) : Type 0 where
-  pub events : total.events ≡ sum_by (λ f. f.events) fs
-  pub voided : total.voided ≡ sum_by (λ f. f.voided) fs
-  pub transactions : total.transactions ≡ sum_by (λ f. f.transactions) fs
-  pub complete : total.complete ≡ sum_by (λ f. f.complete) fs
-  pub missing : total.missing ≡ sum_by (λ f. f.missing) fs
-  pub up : total.up ≡ sum_by (λ f. f.up) fs
-  pub down : total.down ≡ sum_by (λ f. f.down) fs
-  pub export_up : total.export_up ≡ sum_by (λ f. f.export_up) fs
-  pub export_down : total.export_down ≡ sum_by (λ f. f.export_down) fs
+-- Each figure, by its place in a board's line, is the sum of that figure over these.
+abbrev pub AreSums : Figures → List Figures → Type 0
+AreSums total fs = (k : ℕ) → figure_at k total ≡ sum_by (figure_at k) fs

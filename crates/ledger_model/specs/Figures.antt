@@ -1,9 +1,31 @@
-use Rattle.std.specs.Prelude.{◌+◌, ◌*◌, ◌≤◌}
+use Rattle.std.specs.Prelude.{ℕ, ◌+◌, ◌*◌, ◌≤◌, List, [], ◌∷◌, slice_index}
 use Rattle.ledger_model.{specs.declared.figures.Figures.Figures, specs.Limits.Bounds, specs.Ranges.{greatest_reading, sequence_end}}
+
+-- The figures in the order of a board's line.
+abbrev pub figure_list : Figures → List ℕ
+figure_list f = f.events ∷ f.voided ∷ f.transactions ∷ f.complete ∷ f.missing ∷ f.up ∷ f.down ∷ f.export_up ∷ f.export_down ∷ []
+
+-- The figures of a list in that order; those behind its end are 0.
+abbrev pub figures_from : List ℕ → Figures
+figures_from ns = record {
+  events = slice_index ns 0;
+  voided = slice_index ns 1;
+  transactions = slice_index ns 2;
+  complete = slice_index ns 3;
+  missing = slice_index ns 4;
+  up = slice_index ns 5;
+  down = slice_index ns 6;
+  export_up = slice_index ns 7;
+  export_down = slice_index ns 8;
+}
+
+-- The figure at a place of that list; 0 behind its end.
+abbrev pub figure_at : ℕ → Figures → ℕ
+figure_at k f = slice_index (figure_list f) k
 
 -- The figures of a station without events.
 abbrev pub no_figures : Figures
-no_figures = record { events = 0; voided = 0; transactions = 0; complete = 0; missing = 0; up = 0; down = 0; export_up = 0; export_down = 0 }
+no_figures = figures_from []
 
 -- Figures that a station of these limits can have.
 pub record AreWithin (limits : Bounds) (f : Figures) : Type 0 where

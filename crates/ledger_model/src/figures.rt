@@ -1,8 +1,11 @@
-ghost use Rattle.std.specs.Prelude.{◌≡◌, ◌↔◌, IsTrue};
+ghost use Rattle.std.specs.Prelude.{◌≡◌, ◌↔◌, IfSome, IsTrue};
 
 use crate::{GREATEST_READING, Limits};
 
-/// Nine numbers that sum up a station or a site.
+/// How many figures there are.
+pub const FIGURES: usize = 9;
+
+/// The numbers that sum up a station or a site.
 #[derive(Clone, Copy, Debug, PartialEq, Eq)]
 pub struct Figures {
     /// Events that are stored and not voided.
@@ -26,23 +29,70 @@ pub struct Figures {
 }
 
 impl Figures {
-    ghost use Rattle.ledger_model.specs.Figures.{no_figures, AreWithin};
+    ghost use Rattle.ledger_model.{specs.Figures.{figure_list, no_figures, AreWithin}, specs.Board.plus_figures};
 
     /// The figures of a station without events.
     pub fn zero() -> Self
         ensures { result ≡ no_figures }
     {
+        Figures::from_array([0; FIGURES])
+    }
+
+    /// The figures of these numbers, in the order of a board's line.
+    pub fn from_array(numbers: [u64; FIGURES]) -> Self
+        ensures { figure_list result ≡ numbers }
+    {
+        let [
+            events,
+            voided,
+            transactions,
+            complete,
+            missing,
+            up,
+            down,
+            export_up,
+            export_down,
+        ] = numbers;
         Figures {
-            events: 0,
-            voided: 0,
-            transactions: 0,
-            complete: 0,
-            missing: 0,
-            up: 0,
-            down: 0,
-            export_up: 0,
-            export_down: 0,
+            events,
+            voided,
+            transactions,
+            complete,
+            missing,
+            up,
+            down,
+            export_up,
+            export_down,
         }
+    }
+
+    /// The figures in the order of a board's line.
+    pub fn to_array(&self) -> [u64; FIGURES]
+        ensures { result ≡ figure_list self.now }
+    {
+        [
+            self.events,
+            self.voided,
+            self.transactions,
+            self.complete,
+            self.missing,
+            self.up,
+            self.down,
+            self.export_up,
+            self.export_down,
+        ]
+    }
+
+    /// The sum of both, figure by figure; `None` if one does not fit in 64 bits.
+    pub fn checked_add(&self, other: &Self) -> Option<Self>
+        ensures { IfSome result (λ f. f ≡ plus_figures self.now other.now) }
+    {
+        let mut sums = self.to_array();
+        let others = other.to_array();
+        for k in 0..FIGURES {
+            sums[k] = sums[k].checked_add(others[k])?;
+        }
+        Some(Figures::from_array(sums))
     }
 
     /// Returns whether a station of these limits can have such figures.

@@ -42,7 +42,7 @@ pub use by_direction::ByDirection;
 pub use command::Command;
 pub use event::{Event, MAX_EVENT_READINGS};
 pub use evse::{EvseId, GREATEST_EVSE};
-pub use figures::Figures;
+pub use figures::{FIGURES, Figures};
 pub use key::{Key, SEQUENCE_END};
 pub use kind::Kind;
 pub use limits::{

@@ -1,5 +1,5 @@
 ghost use Rattle.std.{specs.Prelude.{◌≡◌, ◌≤◌, ◌<◌, ◌↔◌, true, length, IsSome, IfSome, Some, nat_eq, refl}, specs.List.list_all, specs.Ordering.nat_cmp, specs.Cmp.partial_equiv_from_equiv, specs.Cmp.Lexicographic.{pointwise, slice_cmp, nat_list_eq_equiv, nat_list_cmp_total, texts_po, texts_ties}};
-ghost use Rattle.ledger_model.{specs.Ranges.most_id_characters, specs.TxId.{is_tx_id, is_visible, folded, folded_byte, IsFoldedId}};
+ghost use Rattle.ledger_model.{specs.Ranges.most_id_characters, specs.TxId.{is_tx_id, is_visible, folded, IsFoldedId}};
 
 use arrayvec::ArrayString;
 use std::cmp::Ordering;
@@ -35,25 +35,19 @@ fn are_visible(bytes: &[u8]) -> bool
     bytes.iter().all(|byte| 0x21 <= *byte && *byte <= 0x7E)
 }
 
-// The character in lower case.
-fn folded_char(byte: u8) -> char
-    requires { is_visible byte ≡ true }
-    ensures value { result ≡ folded_byte byte }
-    ensures ascii { result < 128 }
-{
-    byte.to_ascii_lowercase() as char
-}
-
 // The text in lower case.
 fn folded_text(bytes: &[u8]) -> ArrayString<MAX_TX_ID>
     requires few { length bytes.now ≤ most_id_characters }
     requires visible { list_all is_visible bytes.now ≡ true }
     ensures { result.bytes ≡ folded bytes.now }
 {
+    let mut room = [0; MAX_TX_ID];
+    let lower = &mut room[..bytes.len()];
+    lower.copy_from_slice(bytes);
+    lower.make_ascii_lowercase();
     let mut text = ArrayString::<MAX_TX_ID>::new();
-    for byte in bytes {
-        text.push(folded_char(*byte));
-    }
+    // Visible characters are ASCII, so they are UTF-8.
+    text.push_str(unsafe { str::from_utf8_unchecked(lower) });
     text
 }
 

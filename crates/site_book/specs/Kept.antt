@@ -1,16 +1,16 @@
-use Rattle.std.specs.Prelude.{◌≡◌, ℕ, ◌<◌, false, List, [], map, length, Some, slice_get, All}
+use Rattle.std.specs.Prelude.{◌≡◌, ℕ, ◌+◌, ◌<◌, false, List, [], map, length, Some, slice_get, All}
 use Rattle.atomic_table.{specs.Table.Me, specs.Seated.TableId}
-use Rattle.ledger_model.{specs.declared.figures.Figures.Figures, specs.Posts.{Post, row_after, totals_after}}
+use Rattle.ledger_model.{specs.declared.figures.TheConstants.FIGURES, specs.declared.figures.Figures.Figures, specs.Posts.{Post, row_after, totals_after}}
 use Rattle.site_book.{specs.declared.table.View.View, specs.declared.row.BookRow.BookRow, specs.Book.ArePlanned, specs.Rule.{writing, seeing}}
 
 -- What a seat knows, and the slots that it holds: a book's table has none.
 abbrev pub Seated : Type 0
 Seated = Me (Unit {0}) View
 
--- A seat at this table of ten words.
+-- A seat at this table of a version and the figures.
 pub record Sits (table seat : TableId) : Type 0 where
   pub same : seat ≡ table
-  pub ten : table.words ≡ 10
+  pub words : table.words ≡ FIGURES + 1
 
 -- A table before its book is opened: its first seat knows that there are no posts.
 pub record IsUnused (table seat : TableId) (me : Seated) : Type 0 where

@@ -2,16 +2,12 @@ use Rattle.std.specs.Prelude.{◌≡◌, ℕ, ◌+◌, ◌*◌, ◌≤◌, true,
 use mathlib.Core.Option.{some}
 use lib.ListN.{get_elem?}
 use Rattle.atomic_table.specs.Table.{State, Step, Me}
-use Rattle.ledger_model.{specs.declared.figures.Figures.Figures, specs.Figures.no_figures, specs.Posts.{Post, totals_after}}
+use Rattle.ledger_model.{specs.Figures.{figure_list, no_figures}, specs.Posts.{Post, totals_after}}
 use Rattle.site_book.{specs.Prefix.IsPrefix, specs.declared.table.View.View}
-
--- The figures as the words after the version have them.
-abbrev pub numbers_of : Figures → List ℕ
-numbers_of f = f.events ∷ f.voided ∷ f.transactions ∷ f.complete ∷ f.missing ∷ f.up ∷ f.down ∷ f.export_up ∷ f.export_down ∷ []
 
 -- The totals after these posts as the words have them.
 abbrev pub shown : List Post → List ℕ
-shown posts = numbers_of (totals_after posts)
+shown posts = figure_list (totals_after posts)
 
 -- The version: twice the number of posts, plus one while a post is under way.
 abbrev pub version_of : List Post → List Post → ℕ

@@ -1,26 +1,10 @@
-use Rattle.std.specs.Prelude.{◌≤◌, ◌<◌, ◌^◌}
-use Rattle.ledger_model.specs.declared.figures.Figures.{Figures}
+use Rattle.std.specs.Prelude.{ℕ, ◌≤◌, ◌<◌, ◌^◌}
+use Rattle.ledger_model.{specs.declared.figures.Figures.Figures, specs.Figures.figure_at}
 
 -- Each figure fits in a word.
-pub record AreWords (f : Figures) : Type 0 where
-  pub events : f.events < 2 ^ 64
-  pub voided : f.voided < 2 ^ 64
-  pub transactions : f.transactions < 2 ^ 64
-  pub complete : f.complete < 2 ^ 64
-  pub missing : f.missing < 2 ^ 64
-  pub up : f.up < 2 ^ 64
-  pub down : f.down < 2 ^ 64
-  pub export_up : f.export_up < 2 ^ 64
-  pub export_down : f.export_down < 2 ^ 64
+abbrev pub AreWords : Figures → Type 0
+AreWords f = (k : ℕ) → figure_at k f < 2 ^ 64
 
 -- Each figure of the one is at most that of the other.
-pub record AreAtMost (f g : Figures) : Type 0 where
-  pub events : f.events ≤ g.events
-  pub voided : f.voided ≤ g.voided
-  pub transactions : f.transactions ≤ g.transactions
-  pub complete : f.complete ≤ g.complete
-  pub missing : f.missing ≤ g.missing
-  pub up : f.up ≤ g.up
-  pub down : f.down ≤ g.down
-  pub export_up : f.export_up ≤ g.export_up
-  pub export_down : f.export_down ≤ g.export_down
+abbrev pub AreAtMost : Figures → Figures → Type 0
+AreAtMost f g = (k : ℕ) → figure_at k f ≤ figure_at k g

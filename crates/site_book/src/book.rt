@@ -140,7 +140,7 @@ impl<J: Naming> SiteBook<J> {
     }
 
     /// Writes a station's figures into its row. The result carries all posts up to this one. The call
-    /// takes no memory and waits for nobody: eleven stores and one load.
+    /// takes no memory and waits for nobody: a store for each figure, two of the version, and one load.
     ///
     /// Conditions: the row is there ([`SiteBook::holds`] tests it), the figures are within its limits
     /// ([`Figures::within`] tests it), and fewer than 2^62 posts were made ([`SiteBook::can_post`]

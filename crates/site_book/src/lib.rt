@@ -4,7 +4,7 @@
 //! their totals. [`SiteBook::post`] writes a station's new figures into its row and gives a [`Told`],
 //! which carries the book's posts. A [`Viewer`] reads the totals from any thread by [`Viewer::glance`],
 //! and takes a `Told` in by [`Viewer::learn`]. None of these calls takes a lock or memory: the totals
-//! are in a table of ten words, a version and the nine figures, which changes in single steps. Only
+//! are in a table of a version and the figures, which changes in single steps. Only
 //! [`Tables::make`] and [`SiteBook::open`] take memory.
 //!
 //! The crate's contract: contracts see a book as the list of its posts, and a viewer and a `Told` as

@@ -6,7 +6,7 @@ use crate::table::{
     Checks, Closes, Grows, Keeps, Loads, Looks, Opens, Recalls, Shares, Stores, TableSeat, TakesIn,
     ThePost, Words,
 };
-use ledger_model::Figures;
+use ledger_model::{FIGURES, Figures};
 
 // The book makes the version odd: this post is under way.
 pub(crate) fn open_post<Q: ThePost>(
@@ -30,7 +30,7 @@ pub(crate) fn open_post<Q: ThePost>(
 pub(crate) fn store_total(words: &Words, seat: &mut TableSeat, index: usize, total: u64)
     requires sits { Sits words.now.table_id seat.old.table_id }
     requires writes { seat.old.me ≡ (writing seat.old.me.0.log [] seat.old.me.0.pending index, []) }
-    requires next { index < 9 }
+    requires next { index < FIGURES }
     requires total { total ≡ slice_index (shown (seat.old.me.0.log ++ seat.old.me.0.pending)) index }
     ensures sits { Sits words.now.table_id seat.new.table_id }
     ensures stored { seat.new.me ≡ (writing seat.old.me.0.log [] seat.old.me.0.pending (index + 1), []) }
@@ -41,7 +41,7 @@ pub(crate) fn store_total(words: &Words, seat: &mut TableSeat, index: usize, tot
 // The book makes the version even: the post under way is one of its posts.
 pub(crate) fn close_post(words: &Words, seat: &mut TableSeat, version: u64)
     requires sits { Sits words.now.table_id seat.old.table_id }
-    requires writes { seat.old.me ≡ (writing seat.old.me.0.log [] seat.old.me.0.pending 9, []) }
+    requires writes { seat.old.me ≡ (writing seat.old.me.0.log [] seat.old.me.0.pending FIGURES, []) }
     requires one { length seat.old.me.0.pending ≡ 1 }
     requires version { version ≡ 2 * length seat.old.me.0.log + 2 }
     ensures sits { Sits words.now.table_id seat.new.table_id }
@@ -76,7 +76,7 @@ pub(crate) fn recall(words: &Words, seat: &mut TableSeat)
 pub(crate) fn load_total(words: &Words, seat: &mut TableSeat, index: usize) -> u64
     requires sits { Sits words.now.table_id seat.old.table_id }
     requires looks { seat.old.me ≡ (looking seat.old.me.0.log seat.old.me.0.version seat.old.me.0.read, []) }
-    requires next { (length seat.old.me.0.read ≡ index) × (index < 9) }
+    requires next { (length seat.old.me.0.read ≡ index) × (index < FIGURES) }
     ensures sits { Sits words.now.table_id seat.new.table_id }
     ensures loaded { seat.new.me ≡ (looking seat.old.me.0.log seat.old.me.0.version (seat.old.me.0.read ++ result ∷ []), []) }
 {
@@ -88,7 +88,7 @@ pub(crate) fn look_again(words: &Words, seat: &mut TableSeat) -> u64
     requires sits { Sits words.now.table_id seat.old.table_id }
     requires looks { seat.old.me ≡ (looking seat.old.me.0.log seat.old.me.0.version seat.old.me.0.read, []) }
     requires even { seat.old.me.0.version % 2 ≡ 0 }
-    requires all { length seat.old.me.0.read ≡ 9 }
+    requires all { length seat.old.me.0.read ≡ FIGURES }
     ensures sits { Sits words.now.table_id seat.new.table_id }
     ensures sees { HasSeen result seat.old.me seat.new.me }
 {

@@ -1,4 +1,4 @@
-//! The table that a book and its viewers share: word 0 is the version, words 1 to 9 are the totals.
+//! The table that a book and its viewers share: word 0 is the version, and behind it are the totals.
 use atomic_table::{Join, Play, Seat, Shared, Split, Table, TableRule};
 use ledger_model::Figures;
 use std::alloc::Global;

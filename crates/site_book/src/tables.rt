@@ -5,9 +5,13 @@ use crate::naming::Naming;
 use crate::steps::share;
 use crate::table::{SiteTable, TableSeat};
 use crate::viewer::Viewer;
+use ledger_model::FIGURES;
 use std::alloc::{AllocError, Global};
 use std::marker::Model;
 use std::sync::Arc;
+
+// The words of a site's table: a version, and behind it the figures.
+const WORDS: usize = FIGURES + 1;
 
 // A site's table that no book has taken yet, with its first seat, which will be the book's.
 #[derive(Drop)]
@@ -32,7 +36,7 @@ impl Model for Unused {
 
 impl Unused {
     fn new(alloc: Global) -> Result<Self, AllocError> {
-        let (table, seat) = SiteTable::of_words(alloc, &[0; 10], &())?;
+        let (table, seat) = SiteTable::of_words(alloc, &[0; WORDS], &())?;
         Ok(Unused {
             table: Arc::new(alloc, table)?,
             seat,

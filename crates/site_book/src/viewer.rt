@@ -1,6 +1,6 @@
 ghost use Rattle.std.{specs.Prelude.{◌≡◌, ◌⊎◌, [], length}, specs.Arc.arc_value};
 ghost use Rattle.ledger_model.specs.Posts.{totals_after};
-ghost use Rattle.site_book.{specs.Book.known, specs.Kept.Sits, specs.Prefix.IsPrefix, specs.Rule.{numbers_of, seeing}};
+ghost use Rattle.site_book.{specs.Book.known, specs.Kept.Sits, specs.Prefix.IsPrefix, specs.Rule.seeing};
 
 use crate::naming::Naming;
 use crate::rounds::gather;
@@ -68,7 +68,7 @@ impl<J: Naming> Viewer<J> {
 
     /// The site's totals after some first posts of its book, which include all that this viewer saw
     /// or learnt before. It tries once to read the version, the totals and the version again, with
-    /// at most eleven loads. If a post came between, it gives the totals that this viewer last saw
+    /// one load for each figure and two of the version. If a post came between, it gives the totals that this viewer last saw
     /// or learnt.
     pub fn glance(&mut self) -> Figures
         ensures totals { result ≡ totals_after self.new.posts }
@@ -81,7 +81,7 @@ impl<J: Naming> Viewer<J> {
             let read = gather(words, &mut self.seat);
             if look_again(words, &mut self.seat) == version {
                 self.posts = version / 2;
-                self.totals = figures_of(read);
+                self.totals = Figures::from_array(read);
             }
         }
         self.totals
@@ -128,33 +128,5 @@ impl<J: Naming> Viewer<J> {
             desk: _,
         } = self;
         seat
-    }
-}
-
-// The figures that nine words show.
-fn figures_of(words: [u64; 9]) -> Figures
-    ensures { numbers_of result ≡ words }
-{
-    let [
-        events,
-        voided,
-        transactions,
-        complete,
-        missing,
-        up,
-        down,
-        export_up,
-        export_down,
-    ] = words;
-    Figures {
-        events,
-        voided,
-        transactions,
-        complete,
-        missing,
-        up,
-        down,
-        export_up,
-        export_down,
     }
 }

@@ -1,5 +1,5 @@
 use Rattle.std.{specs.Prelude.{◌≡◌, ℕ, ◌<◌, ◌==◌, if◌then◌else◌, List, filter, map, length, count_by, sum_by, Some, slice_get, refl}, specs.Coded.{Coded, code_by, coded×, coded_list, coded_ℕ}}
-use Rattle.ledger_model.{specs.declared.figures.Figures.Figures, specs.Board.{figures_by, plus_figures, sum_of_figures}, specs.Content.entries, specs.Limits.Bounds, specs.Posts.{Post, totals_after}, specs.Step.Reached}
+use Rattle.ledger_model.{specs.declared.figures.Figures.Figures, specs.Figures.{figure_list, figures_from}, specs.Board.{figures_by, plus_figures, sum_of_figures}, specs.Content.entries, specs.Limits.Bounds, specs.Posts.{Post, totals_after}, specs.Step.Reached}
 use Rattle.site_book.{specs.Book.{Book, Known}, specs.Prefix.IsPrefix}
 use Rattle.site_desk.{specs.declared.roster.StationPlace.StationPlace, specs.Parts.IsTied, specs.Roster.StandsAt}
 use Rattle.station_ledger.specs.Ledger.{bounds_code}
@@ -12,24 +12,9 @@ pub record Ended : Type 0 where
   pub books : List Book
   pub passes : List Held
 
--- Figures are kept as the tuple of their parts.
+-- Figures are kept as their list.
 abbrev pub figures_code : Coded Figures
-figures_code =
-    code_by (ℕ × (ℕ × (ℕ × (ℕ × (ℕ × (ℕ × (ℕ × (ℕ × ℕ))))))))
-    (coded× coded_ℕ (coded× coded_ℕ (coded× coded_ℕ (coded× coded_ℕ (coded× coded_ℕ (coded× coded_ℕ (coded× coded_ℕ (coded× coded_ℕ coded_ℕ))))))))
-    (λ f. (f.events, (f.voided, (f.transactions, (f.complete, (f.missing, (f.up, (f.down, (f.export_up, f.export_down)))))))))
-    (λ p. record {
-      events = p.0;
-      voided = p.1.0;
-      transactions = p.1.1.0;
-      complete = p.1.1.1.0;
-      missing = p.1.1.1.1.0;
-      up = p.1.1.1.1.1.0;
-      down = p.1.1.1.1.1.1.0;
-      export_up = p.1.1.1.1.1.1.1.0;
-      export_down = p.1.1.1.1.1.1.1.1;
-    })
-    (λ _. refl)
+figures_code = code_by (List ℕ) (coded_list coded_ℕ) figure_list figures_from (λ _. refl)
 
 -- A book is kept as the tuple of its parts.
 abbrev pub book_code : Coded Book

@@ -1,6 +1,5 @@
 //! What a desk compares before it is closed.
 ghost use Rattle.std.specs.Prelude.{◌≡◌, ◌≢◌, IsTrue, IfNone, IfSome, length, map};
-ghost use Rattle.ledger_model.specs.Board.{plus_figures};
 ghost use Rattle.site_desk.{specs.Close.{AreAllPasses, AreSummed, AreViewed, AreWhole, IsClosable, IsCounted, IsPlaced, IsSummed, IsWhole, changes_of, figures_at, figures_with, passes_of}, specs.Parts.IsTied, specs.declared.fault.CloseFault.CloseFault};
 
 use crate::fault::CloseFault;
@@ -109,29 +108,12 @@ pub(crate) fn are_whole<C: HasCell, J: Naming>(
     true
 }
 
-// The sum of both, if it fits.
-pub(crate) fn plus(figures: &Figures, others: &Figures) -> Option<Figures>
-    ensures { IfSome result (λ f. f ≡ plus_figures figures.now others.now) }
-{
-    Some(Figures {
-        events: figures.events.checked_add(others.events)?,
-        voided: figures.voided.checked_add(others.voided)?,
-        transactions: figures.transactions.checked_add(others.transactions)?,
-        complete: figures.complete.checked_add(others.complete)?,
-        missing: figures.missing.checked_add(others.missing)?,
-        up: figures.up.checked_add(others.up)?,
-        down: figures.down.checked_add(others.down)?,
-        export_up: figures.export_up.checked_add(others.export_up)?,
-        export_down: figures.export_down.checked_add(others.export_down)?,
-    })
-}
-
 // These sums, with the cell's figures added if it belongs to the site; none if they don't fit.
 fn plus_at(cell: &StationCell, site: usize, sum: &Figures) -> Option<Figures>
     ensures { IfSome result (λ f. f ≡ figures_with cell.now site sum.now) }
 {
     if cell.site() as usize == site {
-        plus(&cell.ledger().figures(), sum)
+        cell.ledger().figures().checked_add(sum)
     } else {
         Some(*sum)
     }

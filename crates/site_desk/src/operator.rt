@@ -5,7 +5,6 @@ ghost use Rattle.site_desk.{specs.declared.fault.BoardFault.BoardFault, specs.Op
 ghost use Rattle.ledger_model.specs.Board.{Board, sum_of_figures};
 ghost use Rattle.station_cell.specs.Cell.{Cell};
 
-use crate::checks::plus;
 use crate::fault::BoardFault;
 use crate::has_cell::HasCell;
 use crate::locks::Locked;
@@ -160,5 +159,5 @@ pub(crate) fn sum_of(boards: &[(Name, StationBoard)]) -> Option<Figures>
     let [first, rest @ ..] = boards else {
         return Some(Figures::zero());
     };
-    plus(&first.1.figures(), &sum_of(rest)?)
+    first.1.figures().checked_add(&sum_of(rest)?)
 }

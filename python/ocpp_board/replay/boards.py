@@ -173,9 +173,8 @@ class Part:
     def add(self, kind: str, values: tuple[str, ...]) -> bool:
         """Takes a line into the part; False where its values can't be."""
         if kind == "total":
-            events, voided, transactions, complete, missing = map(int, values[: len(COUNTS)])
             flow = flow_in(values[len(COUNTS) :])
-            self.total = Total(events, voided, transactions, complete, missing, flow)
+            self.total = Total(*map(int, values[: len(COUNTS)]), flow=flow)
         elif kind == "evse":
             self.evses.append(Evse(int(values[0]), flow_in(values[1:])))
         elif kind == "period":

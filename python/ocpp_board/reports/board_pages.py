@@ -458,11 +458,8 @@ class SiteRows:
 
     def whole(self) -> Total:
         """The sum of the figures."""
-        events, voided, transactions, complete, missing = (
-            sum(getattr(one, name) for one in self.totals) for name in COUNTS
-        )
-        flow = sum_of(one.flow for one in self.totals)
-        return Total(events, voided, transactions, complete, missing, flow)
+        counts = (sum(getattr(one, name) for one in self.totals) for name in COUNTS)
+        return Total(*counts, flow=sum_of(one.flow for one in self.totals))
 
     def with_sum(self) -> list[Row]:
         """The rows, with the sum of the figures where there are several."""

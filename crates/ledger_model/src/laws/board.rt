@@ -1,5 +1,5 @@
 ghost use Rattle.std.{specs.Prelude.{◌≡◌, ◌≢◌, ◌↔◌, ℕ, ◌+◌, ◌<◌, true, List, [], ◌∷◌, ◌++◌, All, codes, length, map}, specs.List.{list_any, range_with_len}, specs.List.Sorted.IsStrictlySortedBy, specs.Str.bytes_eq, specs.Ordering.nat_cmp, specs.Cmp.Lexicographic.slice_cmp};
-ghost use Rattle.ledger_model.{specs.Periods.Periods, specs.BoardExamples.{first_run, first_run_board, first_run_site, late_event, late_event_board, void_and_restore, void_and_restore_board, quarter_boundary, closing_periods, quarter_closed, at_first_moment, readings_again_at_end, readings_again_counts, readings_again_quarters, evse_moves, evse_voided, start_voided, widest_gap, widest_gap_counts, exported, in_turn, rise, took, ten}, specs.BoardLaws.{AreRising, AreGaps, AreComplete, AreSums, IsIn, flows_over, quarters_over, sum_of_energies}, specs.Board.{Board, board, board_by, figures, flows_under, last_or_zero, plus_figures, site_board, sum_of_figures}, specs.ByDirection.flows_toward, specs.Complete.{is_complete, kinds_of}, specs.Content.{Content, Entry, entries, has_transaction, live, transactions_of}, specs.Energy.{energy_by, energy_in_by, energy_of_by, parts_of_both, quarters_by}, specs.Evse.{energy_at_by, evse_of, evses, first_or_zero}, specs.Gaps.{Gap, gaps, missing, numbers_of}, specs.Settling.default_periods, specs.Posts.{Post, row_after, totals_after}, specs.declared.figures.Figures.Figures, specs.declared.order.Order.Order, specs.declared.reading.Direction.Direction, specs.declared.reading.Direction.TheVariants.Export};
+ghost use Rattle.ledger_model.{specs.Periods.Periods, specs.BoardExamples.{first_run, first_run_board, first_run_site, late_event, late_event_board, void_and_restore, void_and_restore_board, quarter_boundary, closing_periods, quarter_closed, at_first_moment, readings_again_at_end, readings_again_counts, readings_again_quarters, evse_moves, evse_moves_counts, evse_voided, evse_voided_counts, start_voided, start_voided_counts, widest_gap, widest_gap_counts, exported, exported_counts, in_turn, rise, took, ten}, specs.BoardLaws.{AreRising, AreGaps, AreComplete, AreSums, IsIn, flows_over, quarters_over, sum_of_energies}, specs.Board.{Board, board, board_by, figures, flows_under, last_or_zero, plus_figures, site_board, sum_of_figures}, specs.ByDirection.flows_toward, specs.Complete.{is_complete, kinds_of}, specs.Content.{Content, Entry, entries, has_transaction, live, transactions_of}, specs.Energy.{energy_by, energy_in_by, energy_of_by, parts_of_both, quarters_by}, specs.Evse.{energy_at_by, evse_of, evses, first_or_zero}, specs.Gaps.{Gap, gaps, missing, numbers_of}, specs.Settling.default_periods, specs.Posts.{Post, row_after, totals_after}, specs.declared.figures.Figures.Figures, specs.declared.order.Order.Order, specs.declared.reading.Direction.Direction, specs.declared.reading.Direction.TheVariants.Export};
 
 /// The gaps of rising numbers are the maximal ranges of the numbers missing between them, rising; no
 /// other list is. Gaps and numbers together make up the range from the lowest to the highest. The
@@ -87,14 +87,14 @@ pub fn board_examples()
     ensures readings_again_at_end { (board default_periods readings_again_at_end).quarters ≡ readings_again_quarters }
     ensures readings_again_figures { figures readings_again_at_end ≡ readings_again_counts }
     ensures evse_moves { (board default_periods evse_moves).evses ≡ (2, took 250_000) ∷ [] }
-    ensures evse_moves_figures { figures evse_moves ≡ record { events = 3; voided = 0; transactions = 1; complete = 1; missing = 0; up = 250_000; down = 0; export_up = 0; export_down = 0 } }
+    ensures evse_moves_figures { figures evse_moves ≡ evse_moves_counts }
     ensures evse_voided { (board default_periods evse_voided).evses ≡ (0, took 250_000) ∷ [] }
-    ensures evse_voided_figures { figures evse_voided ≡ record { events = 2; voided = 1; transactions = 1; complete = 0; missing = 1; up = 250_000; down = 0; export_up = 0; export_down = 0 } }
+    ensures evse_voided_figures { figures evse_voided ≡ evse_voided_counts }
     ensures start_voided { (board default_periods start_voided).evses ≡ (2, took 150_000) ∷ [] }
-    ensures start_voided_figures { figures start_voided ≡ record { events = 2; voided = 1; transactions = 1; complete = 0; missing = 0; up = 150_000; down = 0; export_up = 0; export_down = 0 } }
+    ensures start_voided_figures { figures start_voided ≡ start_voided_counts }
     ensures widest_gap { gaps (numbers_of (codes "t1") widest_gap) ≡ (1, 2_147_483_646) ∷ [] }
     ensures widest_gap_figures { figures widest_gap ≡ widest_gap_counts }
     ensures exported { (board default_periods exported).quarters ≡ (ten, took 100_000) ∷ (ten + 1, flows_toward Export (rise 30_000)) ∷ [] }
-    ensures exported_figures { figures exported ≡ record { events = 3; voided = 0; transactions = 1; complete = 1; missing = 0; up = 100_000; down = 0; export_up = 30_000; export_down = 0 } }
+    ensures exported_figures { figures exported ≡ exported_counts }
     ensures in_turn { (board default_periods in_turn).quarters ≡ (ten, record { import = rise 20_000; export = record { up = 0; down = 10_000 } }) ∷ [] }
 {}

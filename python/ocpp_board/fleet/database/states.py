@@ -4,12 +4,13 @@ from collections.abc import Iterable, Mapping
 from typing import Any
 
 from ocpp_board.energies import FLOW
-from ocpp_board.replay.boards import Numbers
+from ocpp_board.replay.boards import COUNTS, Numbers
 
 PROVISIONAL, SETTLED, CORRECTED = "provisional", "settled", "corrected"
 # The numbers of a total line that count sessions, which closings settle by archiving these; and those of events,
 # which are only of the log, so that each closing changes them.
-SESSIONS, EVENTS = ("transactions", "complete", "missing"), ("events", "voided")
+SESSIONS = ("transactions", "complete", "missing")
+EVENTS = tuple(name for name in COUNTS if name not in SESSIONS)
 # Energies, with what is reckoned of them.
 ENERGIES = (*FLOW, "net")
 

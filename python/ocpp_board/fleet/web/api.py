@@ -32,6 +32,7 @@ from ocpp_board.fleet.web.page_render import zone_of
 from ocpp_board.fleet.database.states import energy_state, settled_of, state_of, station_states
 from ocpp_board.limits import TRANSACTION
 from ocpp_board.messages.bills import TOKENS
+from ocpp_board.replay.boards import COUNTS
 from ocpp_board.reports.session_times import Registers
 
 # Rows of a page, unless asked for and at most; stations that one id is looked for at.
@@ -148,14 +149,13 @@ def local_time(at: datetime | None, zone: str) -> str | None:
 
 def site_json(site: Site) -> Json:
     """A site's row."""
-    keys = ("stations", "events", "voided", "transactions", "complete", "missing")
     return {
         "site": site.name,
         "zone": site.zone,
         "period": site.reckoning.period,
         "reading_order": site.reckoning.order,
         "settle": site.reckoning.settle,
-        **{key: site.numbers[key] for key in keys},
+        **{key: site.numbers[key] for key in ("stations", *COUNTS)},
         **flow_json(site.numbers),
         "state": site.state(),
         "states": site.states(),
@@ -203,13 +203,12 @@ async def board(asked: Asked) -> Response:
     whole, _ = await asked.desk.cells.sites(asked.operator, name)
     found = await merged(rows, api_queries.STATIONS, name, paging.key[0], paging.rows + 1)
     found.sort(key=itemgetter("station"))
-    counts = ("events", "voided", "transactions", "complete", "missing")
     zone = rows[0][1]["zone"]
     stations = [
         {
             "station": row["station"],
             "retired": row["retired"] and row["retired"].isoformat(),
-            **{key: row[key] for key in counts},
+            **{key: row[key] for key in COUNTS},
             **figures_json(row),
             "states": station_states(row),
             "at": local_time(row["at"], zone),

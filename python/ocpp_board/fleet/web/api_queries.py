@@ -1,13 +1,13 @@
 """The queries of the API's lists. Each takes a key that rows keep, and gives the rows behind it."""
 
 from ocpp_board.energies import FLOW
-from ocpp_board.fleet.database.states import SESSIONS, sums
+from ocpp_board.fleet.database.states import EVENTS, SESSIONS, sums
 
 # What closings took out of the log that a board of a station's plan does not have any more.
 GONE = "(b.plan is null or c.plan <= b.plan)"
 BOARD = (*SESSIONS, *FLOW)
 STATIONS = f"""
-select t.station, t.retired, b.at, b.place, coalesce(b.events, 0) as events, coalesce(b.voided, 0) as voided,
+select t.station, t.retired, b.at, b.place, {", ".join(f"coalesce(b.{name}, 0) as {name}" for name in EVENTS)},
     {", ".join(f"coalesce(b.{name}, 0) + coalesce(a.{name}, 0) - u.{name} as {name}" for name in BOARD)},
     a.station is not null as is_archived, {", ".join(f"a.{name} as archived_{name}" for name in SESSIONS)},
     {", ".join(f"coalesce(a.corrected_{name}, 0) as corrected_{name}" for name in SESSIONS)},

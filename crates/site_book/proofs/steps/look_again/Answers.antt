@@ -1,6 +1,7 @@
 use Rattle.std.proofs.Common.{refl, rules}
+use Rattle.ledger_model.specs.declared.figures.TheConstants.{FIGURES}
 use Rattle.site_book.{specs.Rule.shown, proofs.Moves.checks_as}
 use Rattle.site_book.proofs.steps.look_again.Goals as goal
 
 pub load-requires : goal.load-requires
-load-requires c = (search rules, search rules, checks_as shown 9 (λ _. refl) _ _ _ c.requires.looks c.requires.even c.requires.all)
+load-requires c = (search rules, search rules, checks_as shown FIGURES (λ _. refl) _ _ _ c.requires.looks c.requires.even c.requires.all)

@@ -1,6 +1,6 @@
 use Rattle.std.{proofs.Common.{◌≡◌, ◌+◌, List, length, ap, sym, ◌∙◌, subst, refl, rules, [], ◌∷◌, ◌++◌}, proofs.lemmas.List.length_push, proofs.lemmas.Option.get_or_from_slice_get, proofs.Math.Seq.map-set_same}
-use Rattle.site_book.{specs.declared.row.BookRow.BookRow, specs.Kept.AreRows, specs.Book.Admits, specs.Rule.{numbers_of, writing, seeing}, proofs.Books.{admitted, rows-posted, totals-posted, totals-part}, proofs.Totals.{totals-words, part-at_most}}
-use Rattle.ledger_model.specs.Posts.{Post, totals_after}
+use Rattle.site_book.{specs.declared.row.BookRow.BookRow, specs.Kept.AreRows, specs.Book.Admits, specs.Rule.{writing, seeing}, proofs.Books.{admitted, rows-posted, totals-posted, totals-part}, proofs.Totals.{totals-words, part-at_most}}
+use Rattle.ledger_model.{specs.Figures.figure_list, specs.Posts.{Post, totals_after}}
 use Rattle.site_book.proofs.book.SiteBook.post.Goals as goal
 
 pub replaced-totals-requires-clause-words : goal.replaced-totals-requires-clause-words
@@ -25,7 +25,7 @@ announce-requires-clause-totals g c =
     let a = admitted c.self.inside.rows.items c.args.row c.args.figures
     _ (subst (λ b. Admits b.limits c.args.row c.args.figures) (sym c.self.view_is) c.requires.admitted)
     c.index_mut-kept.ensures.value in
-    ap numbers_of (totals-posted _ c.args.row _ _ c.args.figures _ i.totals_are (i.rows_are.figures c.args.row _ a.0) c.replaced-totals.ensures)
+    ap figure_list (totals-posted _ c.args.row _ _ c.args.figures _ i.totals_are (i.rows_are.figures c.args.row _ a.0) c.replaced-totals.ensures)
 
 pub invariant_of-self : goal.invariant_of-self
 invariant_of-self g c =

@@ -1,0 +1,10 @@
+use Rattle.std.proofs.Common.{◌≡◌, ℕ, ◌+◌, ◌<◌, ◌≤◌, get_or, length}
+use Rattle.ledger_model.{specs.declared.figures.TheConstants.FIGURES, specs.Figures.figure_at}
+use Rattle.ledger_model.proofs.figures.Figures.checked_add.Given as goal
+
+abbrev pub invariant-loop-k : goal.invariant-loop-k
+invariant-loop-k l = record {
+  size : length l.sums ≡ FIGURES;
+  added : (j : ℕ) → j < l.k → get_or l.sums j 0 ≡ figure_at j l.fn.self + figure_at j l.fn.other;
+  left : (j : ℕ) → l.k ≤ j → get_or l.sums j 0 ≡ figure_at j l.fn.self;
+}

@@ -1,0 +1,9 @@
+use Rattle.std.proofs.Common.{◌≡◌, ℕ, ◌+◌, ◌<◌, ◌≤◌, get_or}
+use Rattle.ledger_model.specs.Figures.{figure_at}
+use Rattle.site_book.proofs.sums.replaced.Given as goal
+
+abbrev pub invariant-loop-k : goal.invariant-loop-k
+invariant-loop-k l = record {
+  replaced : (j : ℕ) → j < l.k → get_or l.sums j 0 + figure_at j l.fn.old ≡ figure_at j l.fn.totals + figure_at j l.fn.new;
+  left : (j : ℕ) → l.k ≤ j → get_or l.sums j 0 ≡ figure_at j l.fn.totals;
+}
