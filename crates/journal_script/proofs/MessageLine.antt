@@ -1,9 +1,9 @@
 -- What the line of a message says.
 use Rattle.std.{proofs.Common.{◌≡◌, ◌≢◌, ℕ, ◌≤◌, true, false, ◌==◌, List, [], ◌∷◌, ◌++◌, Some, length, get_or, refl, sym, ap, subst, ◌∙◌}, specs.Prelude.codes, specs.Io.BufRead.strip_last, specs.List.list_all, specs.Str.IsUtf8, proofs.lemmas.Bool.false≢true, proofs.lemmas.List.Elements.{All-append, All-cons, All-nil}, proofs.lemmas.List.Sums.AllPass-from_list_all}
-use Rattle.kept_desk.specs.Speaking.{AsksFor, Says, Speaks}
+use Rattle.kept_desk.{specs.Entries.message_text, specs.Speaking.{AsksFor, Says, Speaks}}
 use Rattle.ledger_model.{specs.Name.is_name, specs.declared.command.Command.Command}
 use Rattle.script_lines.{specs.LineMeaning.{line_meaning, sends}, specs.Lines.HasNoFeed, specs.Ranges.longest_line, proofs.MessageLines.{is_word_byte, msg_says, name_word}}
-use Rattle.journal_script.{specs.Speaking.{StandsAsItIs, message_text}, proofs.LastByte.{keeps_last, kept_last, last, last_behind}}
+use Rattle.journal_script.{specs.Speaking.StandsAsItIs, proofs.LastByte.{keeps_last, kept_last, last, last_behind}}
 
 word_feedless : (word : List ℕ) → list_all is_word_byte word ≡ true → HasNoFeed word
 word_feedless word h = λ k d within e. let plain : is_word_byte (get_or word k d) ≡ true = AllPass-from_list_all is_word_byte word h k d within in false≢true (ap is_word_byte (sym e) ∙ plain)

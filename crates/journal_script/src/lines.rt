@@ -2,39 +2,83 @@
 ghost use Rattle.std.{specs.Prelude.{◌≡◌, ◌↔◌, ◌≤◌, true, length, IsTrue, IfOk, OnOk}, specs.Io.BufRead.strip_last};
 ghost use Rattle.ledger_model.{specs.declared.command.Command.TheVariants.Deliver, specs.Name.is_name};
 ghost use Rattle.script_lines.{specs.LineMeaning.line_meaning, specs.Lines.{HasNoFeed, line_bytes}, specs.Ranges.longest_line};
-ghost use Rattle.kept_desk.specs.Speaking.{AsksFor, Says, Speaks};
-ghost use Rattle.journal_script.specs.Speaking.{StandsAsItIs, message_text};
+ghost use Rattle.kept_desk.{specs.Entries.message_text, specs.Speaking.{AsksFor, Says}};
+ghost use Rattle.journal_script.specs.Speaking.{StandsAsItIs};
 
+use kept_desk::Line;
 use ledger_model::{Event, Key, Moment, Name};
 use memchr::memchr;
 use script_lines::{MAX_LINE_BYTES, ScriptLine, read_line, without_return};
 use std::alloc::{AllocError, Global};
 use transaction_event::{Message, message_of};
 
-/// Makes the line of a station's message, and returns whether the line asks for the same delivery as the message. It
-/// does if the text is one line that is not too long. Line feeds and carriage returns between the tokens of a text
-/// become spaces in the line.
-///
-/// Condition: the text asks for this delivery.
-pub fn message_line(
-    alloc: Global,
-    line: &mut Vec<u8>,
-    name: &Name,
-    text: &str,
-    key: &Key,
-    event: &Event,
-) -> Result<bool, AllocError>
-    requires { AsksFor text.now (Deliver key.now event.now) }
-    ensures speaks { IfOk result (λ is. IsTrue is → Speaks name.now line.new.items (Deliver key.now event.now)) }
-    ensures as_it_is { IfOk result (λ is. StandsAsItIs name.now text.now → IsTrue is) }
-{
-    put_message(line, name, text)?;
-    if is_script_line(line) {
-        return Ok(true);
+/// The line of a station's message in a journal.
+#[derive(Drop)]
+pub enum MessageLine {
+    /// The text is one line that is not too long, and is in the journal as it is.
+    AsItIs,
+    /// This line: line feeds and carriage returns between the tokens of the text are spaces in it.
+    Spaced(Vec<u8>),
+    /// No line asks for the same delivery as the message.
+    Unspoken,
+}
+
+impl MessageLine {
+    ghost use Rattle.std.specs.Prelude.{◌≡◌, IfOk, IfSome, IsTrue};
+    ghost use Rattle.ledger_model.specs.declared.command.Command.{Command, TheVariants.Deliver};
+    ghost use Rattle.kept_desk.{specs.Entries.bytes_of, specs.Speaking.{AsksFor, Speaks}};
+    ghost use Rattle.journal_script.specs.Speaking.{SpeaksFor, StandsAsItIs};
+
+    /// The line of this text of a station. Memory is taken only if the text is not in the journal as it is.
+    ///
+    /// Condition: the text asks for this delivery.
+    pub fn of(
+        alloc: Global,
+        name: &Name,
+        text: &str,
+        key: &Key,
+        event: &Event,
+    ) -> Result<Self, AllocError>
+        requires { AsksFor text.now (Deliver key.now event.now) }
+        ensures speaks { IfOk result (SpeaksFor name.now text.now (Deliver key.now event.now)) }
+        ensures as_it_is { IfOk result (λ line. StandsAsItIs name.now text.now → line ≡ MessageLine.AsItIs) }
+    {
+        if stands_as_it_is(name, text) {
+            return Ok(MessageLine::AsItIs);
+        }
+        let mut line = Vec::new(alloc);
+        put_message(&mut line, name, text)?;
+        // No law says that a text with spaces for line feeds asks for the same, so such a line is read.
+        put_spaces(&mut line);
+        if is_script_line(&line) && is_delivery(alloc, Some(&line), name, key, event) {
+            Ok(MessageLine::Spaced(line))
+        } else {
+            Ok(MessageLine::Unspoken)
+        }
     }
-    // No law says that a text with spaces for line feeds asks for the same, so such a line is read.
-    put_spaces(line);
-    Ok(is_script_line(line) && is_delivery(alloc, Some(line), name, key, event))
+
+    /// The line as a journal takes it, if there is one. The name and the text are those that it was made for.
+    pub fn spoken<'a>(&'a self, name: &'a Name, text: &'a str) -> Option<Line<'a>>
+        ensures { (command : Command) → SpeaksFor name.now text.now command self.now → IfSome result (λ line. Speaks name.now (bytes_of line) command) }
+    {
+        match self {
+            MessageLine::AsItIs => Some(Line::Message(name, text)),
+            MessageLine::Spaced(line) => Some(Line::Bytes(line.as_slice())),
+            MessageLine::Unspoken => None,
+        }
+    }
+}
+
+// How many bytes a message's line has besides a name and a text.
+const FRAME_BYTES: usize = 5;
+
+// Returns whether the message's line is a line of a script as it is: at most `MAX_LINE_BYTES`, without a line feed and
+// with no carriage return at its end.
+fn stands_as_it_is(name: &Name, text: &str) -> bool
+    ensures { IsTrue result ↔ StandsAsItIs name.now text.now }
+{
+    let bytes = text.as_bytes();
+    bytes.len() <= MAX_LINE_BYTES - FRAME_BYTES - name.text().len() && is_bare(bytes) && is_line(bytes)
 }
 
 // Makes the line `msg <name> <text>`.

@@ -148,6 +148,7 @@ fn run_over<
 {
     let alloc = rt.alloc();
     let live = journalling.live;
+    let (console, lines) = (ends.console, ends.lines);
     let (kept, viewers) = open_over::<J, K, W>(
         alloc,
         plan,
@@ -167,15 +168,7 @@ fn run_over<
         live,
         listener,
     };
-    let ran = serve_plan_at(
-        run,
-        &serving,
-        passes,
-        viewers,
-        input,
-        ends.console,
-        ends.lines,
-    )?;
+    let ran = serve_plan_at(run, &serving, passes, viewers, input, console, lines)?;
     end_run(alloc, plan, serving.kept, ran)
 }
 

@@ -7,8 +7,8 @@ ghost use Rattle.site_desk.{specs.declared.roster.StationPlace.StationPlace, spe
 ghost use Rattle.station_link.specs.Answer.{Asks, IsSubmitted};
 
 use arrayvec::ArrayString;
-use journal_script::{RECEIPT_BYTES, is_script_line, laws, message_line, receipt_note};
-use kept_desk::{KeptCell, KeptDesk, Moment, Opening};
+use journal_script::{MessageLine, RECEIPT_BYTES, is_script_line, laws, receipt_note};
+use kept_desk::{KeptCell, KeptDesk, Line, Moment, Opening};
 use ledger_model::{Answer, Command, Name, Refusal};
 use running_desk::{MayBreak, Seen, Serves};
 use server_parts::SystemMoments;
@@ -20,9 +20,6 @@ use std::alloc::{AllocError, Global};
 use std::io::Write;
 use std::sync::Wait;
 use std::time::Clock;
-
-// The most bytes of a message's line before its text: `msg`, two spaces and a name.
-const LINE_START: usize = 53;
 
 // A desk with a journal, as a live server serves it.
 #[derive(Drop)]
@@ -81,14 +78,14 @@ impl<J: Naming + Send + Sync, K: Opening + Send + Sync, W: Write + Drop> Deliver
         if name.text().is_empty() {
             return Ok(exhausted());
         }
-        let note = self.note(rt);
         laws::events();
-        let mut line = Vec::with_capacity(alloc, text.len().saturating_add(LINE_START))?;
-        if !message_line(alloc, &mut line, name, text, &key, &event)? {
+        let made = MessageLine::of(alloc, name, text, &key, &event)?;
+        let Some(line) = made.spoken(name, text) else {
             return Ok(exhausted());
-        }
+        };
+        let note = self.note(rt);
         let (command, note) = (Command::Deliver(key, event), note.as_str().as_bytes());
-        Ok(self.kept.submit(rt, pass, command, note, &line, gate))
+        Ok(self.kept.submit(rt, pass, command, note, line, gate))
     }
 }
 
@@ -122,7 +119,8 @@ impl<J: Naming + Send + Sync, K: Opening + Send + Sync, W: Write + Drop> Serves
         }
         let note = self.note(rt);
         let note = note.as_str().as_bytes();
-        self.kept.submit(rt, pass, what, note, bytes, &NoGate)
+        let line = Line::Bytes(bytes);
+        self.kept.submit(rt, pass, what, note, line, &NoGate)
     }
 
     fn boards<R: Wait>(

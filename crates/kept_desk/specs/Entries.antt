@@ -1,5 +1,5 @@
-use Rattle.std.specs.Prelude.{◌≡◌, ℕ, ◌≤◌, List, [], ◌∷◌, ◌++◌, ◌==◌, ◌⊎◌, filter, length}
-use Rattle.kept_desk.specs.declared.entry.Entry.{Entry}
+use Rattle.std.specs.Prelude.{◌≡◌, ℕ, ◌≤◌, List, [], ◌∷◌, ◌++◌, ◌==◌, ◌⊎◌, codes, filter, length}
+use Rattle.kept_desk.{specs.declared.entry.Entry.Entry, specs.declared.line.Line.Line, specs.declared.line.Line.TheVariants.{Bytes, Message}}
 use Rattle.ledger_model.specs.declared.command.Command.{Command}
 use Rattle.script_lines.{specs.Lines.HasNoFeed, specs.Ranges.longest_line}
 
@@ -10,6 +10,15 @@ entry station note line command = record { station = station; note = note; line 
 -- The entries of one station, in their order.
 abbrev pub of_station : ℕ → List Entry → List Entry
 of_station station entries = filter (λ e. e.station == station) entries
+
+-- The line `msg <name> <text>`.
+abbrev pub message_text : List ℕ → List ℕ → List ℕ
+message_text name text = codes "msg " ++ (name ++ 32 ∷ text)
+
+-- The bytes of a line.
+abbrev pub bytes_of : Line → List ℕ
+bytes_of (Bytes bytes) = bytes.now
+bytes_of (Message name text) = message_text name.now text.now
 
 -- The text of a line: its bytes and a line feed.
 abbrev pub line_text : List ℕ → List ℕ

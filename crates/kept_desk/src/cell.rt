@@ -1,5 +1,5 @@
 ghost use Rattle.std.specs.Prelude.{◌≡◌, List, [], ◌∷◌, ◌++◌, length, IfOk};
-ghost use Rattle.kept_desk.{specs.Entries.{IsNote, entry, of_station}, specs.Kept.{IsLeftOwn, IsReceived, KeepsCell, given_with}, specs.Speaking.SpeaksOf};
+ghost use Rattle.kept_desk.{specs.Entries.{IsNote, bytes_of, entry, of_station}, specs.Kept.{IsLeftOwn, IsReceived, KeepsCell, given_with}, specs.Speaking.SpeaksOf};
 ghost use Rattle.ledger_model.specs.Laws.{IsAccepted};
 ghost use Rattle.station_cell.{specs.Cell.IsInService, specs.Settle.cell_after};
 ghost use Rattle.station_ledger.specs.Judged.{IsJudged};
@@ -104,9 +104,9 @@ impl<K: Opening> KeptCell<K> {
     ) -> (Answer, Option<Told<J>>, Option<Moment<K>>)
         requires can { CanJudge at.number at.place.now self.old pass.old }
         requires note { IsNote way.now.note.now }
-        requires speaks { SpeaksOf (K.name at.number) way.now.line.now command }
+        requires speaks { SpeaksOf (K.name at.number) (bytes_of way.now.line) command }
         ensures submitted { Submitted at.entry.place.now pass.old command result.0 pass.new result.1 }
-        ensures received { IsReceived at.entry.place.now (K.first at.entry.number) result.0 (entry at.entry.number way.now.note.now way.now.line.now command) result.1 result.2 }
+        ensures received { IsReceived at.entry.place.now (K.first at.entry.number) result.0 (entry at.entry.number way.now.note.now (bytes_of way.now.line) command) result.1 result.2 }
     {
         let judgement = self.cell.ledger().judgement(&command);
         match judgement.answer {
@@ -133,9 +133,9 @@ impl<K: Opening> KeptCell<K> {
         requires judged { IsJudged self.old.limits self.old.content judged.command judged.judgement.answer }
         requires accepted { IsAccepted judged.judgement.answer }
         requires note { IsNote way.now.note.now }
-        requires speaks { SpeaksOf (K.name at.number) way.now.line.now judged.command }
+        requires speaks { SpeaksOf (K.name at.number) (bytes_of way.now.line) judged.command }
         ensures submitted { Submitted at.entry.place.now pass.old judged.command result.0 pass.new result.1 }
-        ensures received { IsReceived at.entry.place.now (K.first at.entry.number) result.0 (entry at.entry.number way.now.note.now way.now.line.now judged.command) result.1 result.2 }
+        ensures received { IsReceived at.entry.place.now (K.first at.entry.number) result.0 (entry at.entry.number way.now.note.now (bytes_of way.now.line) judged.command) result.1 result.2 }
     {
         match way.write(rt, &mut self.share, &judged.command) {
             Ok(moment) => with_moment(

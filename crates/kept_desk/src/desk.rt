@@ -1,5 +1,5 @@
 ghost use Rattle.std.{specs.Prelude.{◌≡◌, ◌≢◌, ℕ, [], All, length, map, IfOk, IfErr, None, Some, slice_get}, specs.Io.Buffered.{writer_buffer, writer_inner}};
-ghost use Rattle.kept_desk.{specs.Entries.{IsNote, entry}, specs.Kept.{AreBoardsBehind, IsReceived, IsWrittenDown}, specs.Opened.{AreFirst, AreNames}, specs.Speaking.SpeaksOf};
+ghost use Rattle.kept_desk.{specs.Entries.{IsNote, bytes_of, entry}, specs.Kept.{AreBoardsBehind, IsReceived, IsWrittenDown}, specs.Opened.{AreFirst, AreNames}, specs.Speaking.SpeaksOf};
 ghost use Rattle.ledger_model.{specs.declared.answer.Answer.Answer, specs.declared.answer.Refusal.Refusal, specs.Board.sum_of_figures};
 ghost use Rattle.site_desk.{specs.declared.fault.CloseFault.CloseFault, specs.declared.roster.StationPlace.StationPlace, specs.Close.{IsClosable, Saw}, specs.Plan.plan_fault, specs.Roster.AreNewPlaces, specs.Submit.{IsUnchanged, Submitted}, specs.Operator.AreBoardsAt};
 
@@ -9,6 +9,7 @@ use crate::cells::{confirm_all, free_cells, keep_cells};
 use crate::closed::{KeptClosed, KeptRefused};
 use crate::journal::Journal;
 use crate::journal_table::JournalTable;
+use crate::line::Line;
 use crate::moment::Moment;
 use crate::opening::Opening;
 use crate::way::Journalled;
@@ -141,14 +142,14 @@ impl<J: Naming, K: Opening, W: Write + Drop> KeptDesk<J, K, W> {
         pass: &mut Pass,
         command: Command,
         note: &[u8],
-        line: &[u8],
+        line: Line<'_>,
         gate: &G,
     ) -> (Answer, Option<Told<J>>, Option<Moment<K>>)
         requires note { IsNote note.now }
-        requires speaks { (at : StationPlace) → slice_get self.now.stations pass.old.station ≡ Some at → SpeaksOf at.name line.now command }
+        requires speaks { (at : StationPlace) → slice_get self.now.stations pass.old.station ≡ Some at → SpeaksOf at.name (bytes_of line) command }
         ensures settled { (at : StationPlace) → slice_get self.now.stations pass.old.station ≡ Some at → Submitted at pass.old command result.0 pass.new result.1 }
         ensures received { (at : StationPlace) → slice_get self.now.stations pass.old.station ≡ Some at
-            → IsReceived at (K.first pass.old.station) result.0 (entry pass.old.station note.now line.now command) result.1 result.2 }
+            → IsReceived at (K.first pass.old.station) result.0 (entry pass.old.station note.now (bytes_of line.entry) command) result.1 result.2 }
         ensures stranger { slice_get self.now.stations pass.old.station ≡ None → (result.0 ≡ Answer.Refused Refusal.ChangesExhausted) × IsUnchanged pass.old pass.new result.1 }
     {
         let way = Journalled {

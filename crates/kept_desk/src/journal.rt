@@ -1,9 +1,10 @@
 ghost use Rattle.std.{specs.Prelude.{◌≡◌, ◌+◌, ◌≤◌, Bool, true, false, [], ◌∷◌, ◌++◌, IfOk, OnOk, OnErr}, specs.Io.Buffered.{writer_buffer, writer_inner}};
 ghost use Rattle.site_book.specs.Prefix.{IsPrefix};
-ghost use Rattle.kept_desk.{specs.Entries.{IsNote, entry, of_station}, specs.Journal.IsWritten, specs.Speaking.{AreSpoken, SpeaksOf}};
+ghost use Rattle.kept_desk.{specs.Entries.{IsNote, bytes_of, entry, of_station}, specs.Journal.IsWritten, specs.Speaking.{AreSpoken, SpeaksOf}};
 
 use crate::broken::Broken;
 use crate::journal_table::JournalTable;
+use crate::line::Line;
 use crate::moment::Moment;
 use crate::opening::Opening;
 use crate::share::Share;
@@ -102,13 +103,13 @@ impl<K: Opening, W: Write + Drop> Journal<K, W> {
         &mut self,
         share: &mut Share<K>,
         note: &[u8],
-        line: &[u8],
+        line: Line<'_>,
         command: &Command,
     ) -> Result<Moment<K>, Broken>
         requires note { IsNote note.now }
-        requires speaks { SpeaksOf (K.name share.old.station) line.now command.now }
-        ensures added { OnOk result (self.new ≡ record self.old { entries = self.old.entries ++ entry share.old.station note.now line.now command.now ∷ [] }) }
-        ensures known { OnOk result (share.new ≡ record share.old { entries = share.old.entries ++ entry share.old.station note.now line.now command.now ∷ [] }) }
+        requires speaks { SpeaksOf (K.name share.old.station) (bytes_of line) command.now }
+        ensures added { OnOk result (self.new ≡ record self.old { entries = self.old.entries ++ entry share.old.station note.now (bytes_of line.entry) command.now ∷ [] }) }
+        ensures known { OnOk result (share.new ≡ record share.old { entries = share.old.entries ++ entry share.old.station note.now (bytes_of line.entry) command.now ∷ [] }) }
         ensures own { OnOk result (share.old.entries ≡ of_station share.old.station self.old.entries) }
         ensures moment { IfOk result (λ m. m ≡ self.new.entries) }
         ensures whole { OnOk result (self.old.broken ≡ false) }

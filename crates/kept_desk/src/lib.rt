@@ -37,7 +37,8 @@
 //! ```text
 //! let (desk, viewers) = KeptDesk::open(alloc, &plan, parts, table, writer)?;
 //! let mut pass = desk.desk().enlist(rt, &name)?;
-//! desk.submit(rt, &mut pass, Command::Void(key), b"", b"void A T1 3", &NoGate);   // (Accepted(1), Some(told), Some(moment))
+//! let line = Line::Bytes(b"void A T1 3");
+//! desk.submit(rt, &mut pass, Command::Void(key), b"", line, &NoGate);   // (Accepted(1), Some(told), Some(moment))
 //! let closed = desk.close(passes, viewers, moments)?;                        // closed.writer took the line
 //! ```
 #![tactic(auto)]
@@ -51,6 +52,7 @@ mod desk;
 mod entry;
 mod journal;
 mod journal_table;
+mod line;
 mod moment;
 mod opening;
 mod share;
@@ -66,6 +68,7 @@ pub use desk::KeptDesk;
 pub use entry::Entry;
 pub use journal::Journal;
 pub use journal_table::JournalTable;
+pub use line::Line;
 pub use moment::Moment;
 pub use opening::Opening;
 pub use share::Share;

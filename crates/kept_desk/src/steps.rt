@@ -1,12 +1,13 @@
 //! The single steps on a journal's table. Each contract says what its seats know then.
 ghost use Rattle.std.specs.Prelude.{◌≡◌, ◌+◌, ◌≤◌, [], ◌∷◌, ◌++◌};
-ghost use Rattle.kept_desk.{specs.Entries.{entry, of_station}, specs.Held.Sits, specs.Rule.{keeping, holding, joined, knowing, reading}};
+ghost use Rattle.kept_desk.{specs.Entries.{bytes_of, entry, of_station}, specs.Held.Sits, specs.Rule.{keeping, holding, joined, knowing, reading}};
 ghost use Rattle.site_book.specs.Prefix.{IsPrefix};
 
 use crate::table::{
     Adds, Compares, Confirms, Enlists, Gives, Leaves, PartsWithReceipt, ReadsReceipt, Receives,
     TableSeat, TakesIn, TheEntries, TheStation, Words,
 };
+use crate::line::Line;
 use ledger_model::Command;
 
 // A share leaves all that it knows to a new seat, since a seat that is joined can't be kept.
@@ -36,17 +37,17 @@ pub(crate) fn append<E: TheEntries>(
     seat: &mut TableSeat,
     station: u16,
     note: &[u8],
-    line: &[u8],
+    line: Line<'_>,
     command: &Command,
 )
-    requires entries { E.entries ≡ entry station note.now line.now command.now ∷ [] }
+    requires entries { E.entries ≡ entry station note.now (bytes_of line) command.now ∷ [] }
     requires sits { Sits words.now.table_id seat.old.table_id }
     requires joined { seat.old.me ≡ (joined seat.old.me.0.log seat.old.me.0.made station seat.old.me.0.mine, []) }
     ensures sits { Sits words.now.table_id seat.new.table_id }
     ensures added { seat.new.me
         ≡ (
-          joined (seat.old.me.0.log ++ entry station note.now line.now command.now ∷ []) seat.old.me.0.made station
-              (seat.old.me.0.mine ++ entry station note.now line.now command.now ∷ []),
+          joined (seat.old.me.0.log ++ entry station note.now (bytes_of line.entry) command.now ∷ []) seat.old.me.0.made station
+              (seat.old.me.0.mine ++ entry station note.now (bytes_of line.entry) command.now ∷ []),
           [],
         ) }
 {
@@ -96,17 +97,17 @@ pub(crate) fn note_entry<E: TheEntries>(
     share: &mut TableSeat,
     station: u16,
     note: &[u8],
-    line: &[u8],
+    line: Line<'_>,
     command: &Command,
 )
-    requires entries { E.entries ≡ entry station note.now line.now command.now ∷ [] }
+    requires entries { E.entries ≡ entry station note.now (bytes_of line) command.now ∷ [] }
     requires sits { Sits words.now.table_id seat.old.table_id × Sits words.now.table_id share.old.table_id }
     requires keeps { seat.old.me ≡ (keeping seat.old.me.0.log seat.old.me.0.made, []) }
     requires holds { share.old.me ≡ (holding station share.old.me.0.mine, []) }
     ensures sits { Sits words.now.table_id seat.new.table_id × Sits words.now.table_id share.new.table_id }
     ensures own { share.old.me.0.mine ≡ of_station station seat.old.me.0.log }
-    ensures keeps { seat.new.me ≡ (keeping (seat.old.me.0.log ++ entry station note.now line.now command.now ∷ []) seat.old.me.0.made, []) }
-    ensures holds { share.new.me ≡ (holding station (share.old.me.0.mine ++ entry station note.now line.now command.now ∷ []), []) }
+    ensures keeps { seat.new.me ≡ (keeping (seat.old.me.0.log ++ entry station note.now (bytes_of line.entry) command.now ∷ []) seat.old.me.0.made, []) }
+    ensures holds { share.new.me ≡ (holding station (share.old.me.0.mine ++ entry station note.now (bytes_of line.entry) command.now ∷ []), []) }
 {
     let left = leave(words, share);
     absorb(words, seat, left);

@@ -1,11 +1,12 @@
 //! How a desk with a journal takes a command.
 ghost use Rattle.std.specs.Prelude.{◌≡◌, List, ◌++◌, ◌∷◌, [], IfOk, OnOk, OnErr};
-ghost use Rattle.kept_desk.{specs.declared.entry.Entry.Entry, specs.Entries.{IsNote, entry}, specs.Kept.IsNoted, specs.Speaking.SpeaksOf};
+ghost use Rattle.kept_desk.{specs.declared.entry.Entry.Entry, specs.Entries.{IsNote, bytes_of, entry}, specs.Kept.IsNoted, specs.Speaking.SpeaksOf};
 ghost use Rattle.ledger_model.specs.declared.command.Command.{Command};
 
 use crate::broken::Broken;
 use crate::cell::KeptCell;
 use crate::journal::Journal;
+use crate::line::Line;
 use crate::moment::Moment;
 use crate::opening::Opening;
 use crate::share::Share;
@@ -22,7 +23,7 @@ use std::thread::yield_now;
 pub(crate) struct Journalled<'a, K: Opening, W: Write + Drop> {
     pub(crate) log: &'a Mutex<Journal<K, W>>,
     pub(crate) note: &'a [u8],
-    pub(crate) line: &'a [u8],
+    pub(crate) line: Line<'a>,
 }
 
 impl<'a, K: Opening, W: Write + Drop> Journalled<'a, K, W> {
@@ -34,9 +35,9 @@ impl<'a, K: Opening, W: Write + Drop> Journalled<'a, K, W> {
         command: &Command,
     ) -> Result<Moment<K>, Broken>
         requires note { IsNote self.now.note.now }
-        requires speaks { SpeaksOf (K.name share.old.station) self.now.line.now command.now }
-        ensures known { OnOk result (share.new ≡ record share.old { entries = share.old.entries ++ entry share.old.station self.now.note.now self.now.line.now command.now ∷ [] }) }
-        ensures noted { IfOk result (IsNoted share.old (entry share.old.station self.now.note.now self.now.line.now command.now)) }
+        requires speaks { SpeaksOf (K.name share.old.station) (bytes_of self.now.line) command.now }
+        ensures known { OnOk result (share.new ≡ record share.old { entries = share.old.entries ++ entry share.old.station self.now.note.now (bytes_of self.now.line) command.now ∷ [] }) }
+        ensures noted { IfOk result (IsNoted share.old (entry share.old.station self.now.note.now (bytes_of self.now.line) command.now)) }
         ensures same { OnErr result (share.new ≡ share.old) }
     {
         let mut log = hold(rt, self.log);
@@ -46,11 +47,11 @@ impl<'a, K: Opening, W: Write + Drop> Journalled<'a, K, W> {
 
 impl<'a, J: Naming, K: Opening, W: Write + Drop> Settles<J, KeptCell<K>, Moment<K>>
     for Journalled<'a, K, W> {
-    ghost use Rattle.kept_desk.{specs.Entries.{IsNote, entry}, specs.Kept.IsReceived, specs.Speaking.SpeaksOf};
+    ghost use Rattle.kept_desk.{specs.Entries.{IsNote, bytes_of, entry}, specs.Kept.IsReceived, specs.Speaking.SpeaksOf};
 
-    ghost asks = { λ w number command. IsNote w.note.now × SpeaksOf (K.name number) w.line.now command };
+    ghost asks = { λ w number command. IsNote w.note.now × SpeaksOf (K.name number) (bytes_of w.line) command };
 
-    ghost gives = { λ w number at command answer told moment. IsReceived at (K.first number) answer (entry number w.note.now w.line.now command) told moment };
+    ghost gives = { λ w number at command answer told moment. IsReceived at (K.first number) answer (entry number w.note.now (bytes_of w.line) command) told moment };
 
     fn settle<R: Wait>(
         &self,

@@ -1,8 +1,11 @@
 //! What may be in front of a line, and how a line is written.
-ghost use Rattle.std.{specs.Prelude.{◌≡◌, ℕ, ◌↔◌, ◌++◌, List, [], ◌∷◌, IsTrue, OnOk}, specs.Io.Buffered.{writer_buffer, writer_contents}, specs.Io.KnownBytes.Appends};
-ghost use Rattle.kept_desk.specs.Entries.{IsComment, IsNote, line_text};
+ghost use Rattle.std.{specs.Prelude.{◌≡◌, ℕ, ◌↔◌, ◌++◌, List, [], ◌∷◌, IsTrue, OnOk, codes}, specs.Io.Buffered.{writer_buffer, writer_contents}, specs.Io.KnownBytes.Appends};
+ghost use Rattle.kept_desk.specs.Entries.{IsComment, IsNote, bytes_of, line_text, message_text};
 ghost use Rattle.script_lines.{specs.Writing.WritesFront, specs.Lines.HasNoFeed};
 
+use crate::line::Line;
+use arrayvec::ArrayString;
+use ledger_model::Name;
 use script_lines::{MAX_LINE_BYTES, WriteStopped, write_bytes};
 use std::io::{BufWriter, Write};
 
@@ -45,10 +48,10 @@ fn has_no_feed(bytes: &[u8]) -> bool
 pub(crate) fn write_entry<W: Write + Drop>(
     writer: &mut BufWriter<W>,
     note: &[u8],
-    line: &[u8],
+    line: Line<'_>,
 ) -> Result<(), WriteStopped>
     ensures written { (written : List ℕ) × Appends (writer_contents W.contents writer.old) (writer_contents W.contents writer.new) written
-        × WritesFront result (note.now ++ line_text line.now) written }
+        × WritesFront result (note.now ++ line_text (bytes_of line.entry)) written }
     ensures handed_on { OnOk result (writer_buffer writer.new ≡ []) }
 {
     write_bytes(writer, note)?;
@@ -56,12 +59,56 @@ pub(crate) fn write_entry<W: Write + Drop>(
 }
 
 // Writes a line and a line feed, and flushes them: nothing is left in the buffer then.
-fn write_line<W: Write + Drop>(writer: &mut BufWriter<W>, line: &[u8]) -> Result<(), WriteStopped>
+fn write_line<W: Write + Drop>(
+    writer: &mut BufWriter<W>,
+    line: Line<'_>,
+) -> Result<(), WriteStopped>
     ensures written { (written : List ℕ) × Appends (writer_contents W.contents writer.old) (writer_contents W.contents writer.new) written
-        × WritesFront result (line_text line.now) written }
+        × WritesFront result (line_text (bytes_of line.entry)) written }
     ensures handed_on { OnOk result (writer_buffer writer.new ≡ []) }
 {
-    write_bytes(writer, line)?;
+    match line {
+        Line::Bytes(bytes) => write_ended(writer, bytes),
+        Line::Message(name, text) => write_message(writer, name, text),
+    }
+}
+
+// The most bytes of a message's line before its text: `msg`, two spaces and a name.
+const FRONT_BYTES: usize = 53;
+
+// A message's line before its text.
+fn message_front(name: &Name) -> ArrayString<FRONT_BYTES>
+    ensures { result.bytes ≡ codes "msg " ++ (name.now ++ 32 ∷ []) }
+{
+    let mut front = ArrayString::new();
+    front.push_str("msg ");
+    front.push_str(name.text());
+    front.push_str(" ");
+    front
+}
+
+// Writes the line of a message, and flushes it.
+fn write_message<W: Write + Drop>(
+    writer: &mut BufWriter<W>,
+    name: &Name,
+    text: &str,
+) -> Result<(), WriteStopped>
+    ensures written { (written : List ℕ) × Appends (writer_contents W.contents writer.old) (writer_contents W.contents writer.new) written
+        × WritesFront result (line_text (message_text name.now text.now)) written }
+    ensures handed_on { OnOk result (writer_buffer writer.new ≡ []) }
+{
+    let front = message_front(name);
+    write_bytes(writer, front.as_str().as_bytes())?;
+    write_ended(writer, text.as_bytes())
+}
+
+// Writes these bytes and a line feed, and flushes them.
+fn write_ended<W: Write + Drop>(writer: &mut BufWriter<W>, bytes: &[u8]) -> Result<(), WriteStopped>
+    ensures written { (written : List ℕ) × Appends (writer_contents W.contents writer.old) (writer_contents W.contents writer.new) written
+        × WritesFront result (line_text bytes.now) written }
+    ensures handed_on { OnOk result (writer_buffer writer.new ≡ []) }
+{
+    write_bytes(writer, bytes)?;
     end_line(writer)
 }
 
