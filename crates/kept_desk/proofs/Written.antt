@@ -1,5 +1,6 @@
 -- What was written of an entry, part by part.
-use Rattle.std.{proofs.Common.{◌≡◌, ℕ, List, ◌++◌, Option, Result, Ok, Err, append_assoc, append-nil, sym, ap, ◌∙◌, [], subst}, specs.Io.KnownBytes.{Keeps, Appends}, specs.Result.IsErr, proofs.KnownBytes.{Appends-trans, Appends-kept}}
+use Rattle.std.{proofs.Common.{◌≡◌, ℕ, List, ◌∷◌, ◌++◌, Option, Result, Ok, Err, append_assoc, append-nil, sym, ap, ◌∙◌, [], subst}, specs.Io.KnownBytes.{Keeps, Appends}, specs.Prelude.codes, specs.Result.IsErr, proofs.KnownBytes.{Appends-trans, Appends-kept}}
+use Rattle.kept_desk.specs.Entries.{line_text, message_text}
 use Rattle.script_lines.specs.Writing.{WritesFront}
 
 -- some bytes were written, and then these or their front
@@ -28,3 +29,21 @@ cut_short line end w0 w1 (Err x) failed first = (first.0, first.1, (first.2.0 ++
 pub unflushed : (bytes : List ℕ) (w0 w1 w2 : Option (List ℕ)) → (written : List ℕ) × Appends w0 w1 written × (written ≡ bytes) → Keeps w1 w2
     → (written : List ℕ) × Appends w0 w2 written × ((rest : List ℕ) × (bytes ≡ written ++ rest))
 unflushed bytes w0 w1 w2 first kept = (first.0, Appends-kept w0 w1 w2 _ first.1 kept, ([], sym first.2 ∙ sym (append-nil first.0)))
+
+-- the same of a text that is made of both
+pub ended_as : {T E : Type 0} (line end text : List ℕ) (w0 w1 w2 : Option (List ℕ)) (r : Result T E) → line ++ end ≡ text
+    → (one : List ℕ) × Appends w0 w1 one × (one ≡ line)
+    → (two : List ℕ) × Appends w1 w2 two × WritesFront r end two
+    → (all : List ℕ) × Appends w0 w2 all × WritesFront r text all
+ended_as line end text w0 w1 w2 r is first second = subst (λ t. (all : List ℕ) × Appends w0 w2 all × WritesFront r t all) is (ended line end w0 w1 w2 r first second)
+
+pub cut_short_as : {T E : Type 0} (line end text : List ℕ) (w0 w1 : Option (List ℕ)) (r : Result T E) → line ++ end ≡ text → IsErr r
+    → (one : List ℕ) × Appends w0 w1 one × ((rest : List ℕ) × (line ≡ one ++ rest))
+    → (all : List ℕ) × Appends w0 w1 all × WritesFront r text all
+cut_short_as line end text w0 w1 r is failed first = subst (λ t. (all : List ℕ) × Appends w0 w1 all × WritesFront r t all) is (cut_short line end w0 w1 r failed first)
+
+-- a message's line, in front of its text and from there on
+pub message_parts : (name text front bytes : List ℕ) → front ≡ codes "msg " ++ (name ++ 32 ∷ []) → bytes ≡ text → front ++ line_text bytes ≡ line_text (message_text name text)
+message_parts name text front bytes front_is bytes_are =
+    (λ i. front_is i ++ line_text (bytes_are i))
+    ∙ ap (λ l. codes "msg " ++ l) (append_assoc name (32 ∷ []) (text ++ 10 ∷ []) ∙ sym (append_assoc name (32 ∷ text) (10 ∷ [])))
