@@ -1,6 +1,6 @@
 -- The places of a transaction, cut at a rank.
 use Rattle.std.{proofs.lemmas.Grind.common_steps, proofs.Common.{◌≡◌, ℕ, ◌+◌, ◌<◌, ◌≤◌, ◌/◌, ◌%◌, ◌^◌, nat_lt, Bool, true, false, cond, List, [], ◌∷◌, Some, None, map, slice_get, refl, sym, ap, ◌∙◌, arith}, proofs.lemmas.Bool.Decides.{Decides-ltb, Decides-eqb}, specs.List.filter}
-use Rattle.key_index.{specs.Entries.{below, from, first_of, last_of, AreAbove, AreRising, AreBelow}, specs.Key.rank}
+use Rattle.key_index.{specs.Entries.{below, from, first_of, last_of, AreAbove, AreRising}, specs.Key.rank, proofs.Orders.below_more}
 use Rattle.event_chain.{specs.Flat.{EventPlace, segment}, specs.Edits.{at_home, places_before, places_behind}, proofs.Decided.{denied, not_so, same_test}, proofs.Places.{not_less, seg_above, last_under_seg, below_under, below_rising}}
 
 -- Of greater ranks none is in front.
@@ -23,14 +23,9 @@ pub seg_from : (t r n : ℕ) (es : List EventPlace) → n ≡ r + 1 → AreRisin
 seg_from t r n [] up h = refl
 seg_from t r n (e ∷ es) up h = grind (arith, common_steps, Decides-ltb, not_so, not_less, all_over, seg_from t r n es up h.1)
 
--- Ranks under a number are under a greater one.
-under_more : (m n : ℕ) (es : List EventPlace) → m ≤ n → AreBelow m es → AreBelow n es
-under_more m n [] le h = tt
-under_more m n (e ∷ es) le h = let lt = h.0 in (omega arith, under_more m n es le h.1)
-
 -- The last place in front of a rank, where it is of the rank's transaction.
 pub before_seg : (t r : ℕ) (es : List EventPlace) → AreRising es → t ≡ r / 2 ^ 31 → at_home t (last_of (below r es)) ≡ last_of (places_before r es)
-before_seg t r es h home = grind (arith, common_steps, last_under_seg, below_rising, under_more, below_under, seg_below)
+before_seg t r es h home = grind (arith, common_steps, last_under_seg, below_rising, below_more, below_under, seg_below)
 
 -- The first of a segment from a rank of its transaction on.
 first_on : (t n : ℕ) (es : List EventPlace) → AreRising es → rank t 0 ≤ n → at_home t (first_of (from n es)) ≡ slice_get (segment t (from n es)) 0

@@ -4,7 +4,7 @@ use Rattle.ledger_model.{specs.Key.{KeyName, key_cmp}, proofs.Callers.{key_total
 use Rattle.event_chain.specs.Table.{id_cmp}
 
 -- A test by an order decides equality if its ties are equal.
-tied : {K : Type 0} (R : K → K → Ordering) (o : IsTotalOrder R) (same : IsAntisymmetric R) (x y : K) → Decides (eq_by_cmp R x y) (x ≡ y)
+pub tied : {K : Type 0} (R : K → K → Ordering) (o : IsTotalOrder R) (same : IsAntisymmetric R) (x y : K) → Decides (eq_by_cmp R x y) (x ≡ y)
 tied R o same x y = grind (arith, common_steps)
 
 -- The test of keys.

@@ -1,10 +1,10 @@
 -- What chains know before an operation.
-use Rattle.std.{proofs.lemmas.Grind.common_steps, proofs.Common.{◌≡◌, ℕ, zero, suc, ◌+◌, ◌<◌, ◌≤◌, ◌^◌, nat_lt, nat_le, Bool, true, false, not, cond, ◌&&◌, List, [], ◌∷◌, Option, None, is_some, length, sum_by, replicate, refl, sym, ap, ◌∙◌, arith, inl, inr, le-leb, leb-true}, proofs.lemmas.List.Sums.{count_by-le-length, sum_by-cons}, specs.FinMap.FinMap, proofs.lemmas.Bool.cases_lt, proofs.lemmas.List.{length-map, length-replicate}, proofs.lemmas.Bool.Decides.Decides-ltb}
+use Rattle.std.{proofs.lemmas.Grind.common_steps, proofs.Common.{◌≡◌, ℕ, zero, suc, ◌+◌, ◌<◌, ◌≤◌, ◌^◌, nat_lt, nat_le, Bool, true, false, not, cond, ◌&&◌, List, [], ◌∷◌, Option, None, is_some, length, sum_by, replicate, refl, sym, ap, ◌∙◌, arith, inl, inr, le-leb}, proofs.lemmas.List.Sums.{count_by-le-length, sum_by-cons}, specs.FinMap.FinMap, proofs.lemmas.Bool.cases_lt, proofs.lemmas.List.{length-map, length-replicate}, proofs.lemmas.Bool.Decides.{Decides-ltb, nat_tests}}
 use Rattle.std.specs.FinMap as finite
 use Rattle.ledger_model.{specs.declared.reading.Direction.Direction, specs.Key.{KeyName, key_cmp}, specs.Limits.Bounds, specs.Content.{Entry, Stored, has_transaction, transactions_of}, specs.Step.readings_stored, specs.Entries.IsRising}
 use Rattle.slot_arena.specs.Arena.{held_count}
 use Rattle.key_index.specs.Key.{rank}
-use Rattle.event_chain.{specs.Placed.{Index, index}, specs.declared.row.TableRow.TableRow, specs.Table.{Table, TxRow, row_of}, specs.declared.answers.Room.TheVariants.{Fits, NoTransaction, NoEvent, NoReading}, specs.Room.room_of, specs.Flat.{EventPlace, place_of, event_at, flat, look}, specs.Edits.place_at, specs.Kept.{IsChains, IsNamed, IsEntered, events_of}, proofs.Decided.not_so, proofs.Flats.{find_flat, flat_rising}, proofs.Moves.before_named, proofs.Named.{row_here, row_other}, proofs.Figures.known_figures, proofs.Ids.{ids_flat, has_flat}, specs.Chains.{Chained, stored as stored_of}}
+use Rattle.event_chain.{specs.Placed.{Index, index}, specs.declared.row.TableRow.TableRow, specs.Table.{Table, TxRow, row_of}, specs.declared.answers.Room.Room, specs.declared.answers.Room.TheVariants.{Fits, NoTransaction, NoEvent, NoReading}, specs.Room.room_of, specs.Flat.{EventPlace, place_of, event_at, flat, look}, specs.Edits.place_at, specs.Kept.{IsChains, IsNamed, IsEntered, events_of}, proofs.Flats.{find_flat, flat_rising}, proofs.Looks.look_known, proofs.Named.{row_here, row_other}, proofs.Figures.known_figures, proofs.Ids.{ids_flat, has_flat}, specs.Chains.{Chained, stored as stored_of}}
 use Rattle.event_store.specs.Slots.{Held, Slots}
 
 -- Chains of equal parts.
@@ -67,6 +67,10 @@ module _ {limits : Bounds} {table : Table} {store : Slots} {stored live : Index}
   pub entries_all : finite.entries events ≡ all
   entries_all = finite.entries-from_sorted key_cmp all all_rising
 
+  -- They are what callers see.
+  pub all_seen : {seen : Chained} → record { limits = limits; events = events } ≡ seen → all ≡ stored_of seen
+  all_seen view = sym entries_all ∙ ap (λ (x : Chained). stored_of x) view
+
   -- The map finds what the tables have.
   pub get_look : (q : KeyName) → finite.get events q ≡ look table.rows stored.entries store.slots q
   get_look q = finite.get-from_sorted key_cmp all q all_rising ∙ find_flat q table.rows stored.entries store.slots chains.keyed.rising
@@ -100,26 +104,41 @@ module _ {limits : Bounds} {table : Table} {store : Slots} {stored live : Index}
   pub none_at : (mid : List TxRow) (key : KeyName) (row : TableRow) (r0 : ℕ) → finite.get events key ≡ None
       → IsEntered table.rows mid key.tx row → key.seq < 2 ^ 31 → r0 ≡ rank row.slot key.seq → place_of r0 stored.entries ≡ None
   none_at mid key row r0 absent entered number is =
-      let before = before_named table.rows stored.entries store.slots chains.keyed mid key.tx row row (entered_named table.rows mid key.tx row entered) key.seq in
-      no_event (place_of r0 stored.entries) (ap (λ r. event_at store.slots (place_of r stored.entries)) is
-      ∙ sym (ap (λ b. event_at store.slots (cond b (place_of (rank row.slot key.seq) stored.entries) None)) ((Decides-ltb key.seq (2 ^ 31)).1 number)) ∙ sym before ∙ sym (get_look key) ∙ absent) where
+      no_event (place_of r0 stored.entries) (sym (look_known table.rows stored.entries store.slots key row r0 chains.keyed (entered_named table.rows mid key.tx row entered).known number is)
+      ∙ sym (get_look key) ∙ absent) where
         no_event : (o : Option ℕ) → event_at store.slots o ≡ None → o ≡ None
         no_event o h = grind (arith, common_steps)
 
   -- The counts of a transaction that was entered are small.
   pub counts_few : (mid : List TxRow) (tx : List ℕ) (row : TableRow) → IsEntered table.rows mid tx row → (row.live ≤ length stored.entries) × (row.ends ≤ length stored.entries)
-  counts_few mid tx row entered = grind (arith, common_steps, known_figures, entered_named, sum_few, one_at_most)
+  counts_few mid tx row entered =
+      let figures = known_figures table.rows stored.entries store.slots tx row (entered_named table.rows mid tx row entered).known chains.figured in
+      grind (arith, common_steps, sum_few, one_at_most)
 
   -- There are no more places than events may be.
   pub places_few : length stored.entries ≤ limits.events
   places_few = omega (arith, chains.counted.held_are, chains.counted.slots_are, count_by-le-length (is_some {T = Held}) store.slots)
 
   -- Three tests decide the room.
-  pub room_answer : (tx : List ℕ) (n : ℕ) (a b c : Bool)
-      → (not (is_some (row_of tx table.rows)) && nat_le limits.transactions (length table.rows)) ≡ a
-      → nat_le limits.events (length stored.entries) ≡ b → nat_lt limits.readings (readings_stored all + n) ≡ c
-      → room_of limits (finite.entries events) tx n ≡ cond a NoTransaction (cond b NoEvent (cond c NoReading Fits))
-  room_answer tx n a b c a_is b_is c_is = grind (arith, common_steps, entries_all, has_flat, ids_count)
+  module _ (tx : List ℕ) (n : ℕ) {seen : Chained} (view : record { limits = limits; events = events } ≡ seen) {limit : ℕ} {lacks : Bool} (limit_is : limit ≡ limits.transactions)
+      (lacks_is : lacks ≡ (not (is_some (row_of tx table.rows)) && nat_le limit (length table.rows))) where
+    abbrev room : Room
+    room = room_of seen.limits (stored_of seen) tx n
+
+    room_is : room ≡ cond lacks NoTransaction (cond (nat_le limits.events (length stored.entries)) NoEvent (cond (nat_lt limits.readings (store.readings + n)) NoReading Fits))
+    room_is = sym (ap (λ (x : Chained). room_of x.limits (stored_of x) tx n) view) ∙ grind (arith, common_steps, entries_all, has_flat, ids_count)
+
+    pub no_transaction : lacks ≡ true → NoTransaction ≡ room
+    no_transaction lacking = grind (arith, common_steps, room_is)
+
+    pub no_event : lacks ≡ false → limits.events ≤ length stored.entries → NoEvent ≡ room
+    no_event placed full = grind (arith, nat_tests, room_is)
+
+    pub no_reading : lacks ≡ false → length stored.entries < limits.events → limits.readings < store.readings + n → NoReading ≡ room
+    no_reading placed some full = grind (arith, nat_tests, room_is)
+
+    pub all_fits : lacks ≡ false → length stored.entries < limits.events → store.readings + n ≤ limits.readings → Fits ≡ room
+    all_fits placed some few = grind (arith, nat_tests, room_is)
 
 -- No place, no slot.
 none_held : (n : ℕ) → held_count (replicate {A = Option Held} n None) ≡ 0
@@ -137,19 +156,3 @@ opened_chains limits few = grind (arith, common_steps, none_held, length-replica
 pub opened_events : (es : List Entry) → es ≡ [] → finite.from_sorted {R = key_cmp} es ≡ finite.empty
 opened_events es is = ap (λ (xs : List Entry). finite.from_sorted {R = key_cmp} xs) is
     ∙ finite.empty_of_len (finite.from_sorted {R = key_cmp} []) (finite.len-entries (finite.from_sorted {R = key_cmp} []) ∙ ap length (finite.entries-from_sorted key_cmp [] tt))
-
--- What is at most another passes the test.
-pub le_test : (a b : ℕ) → a ≤ b → nat_le a b ≡ true
-le_test a b le = le-leb a b le
-
--- What is more does not.
-pub more_test : (a b : ℕ) → b < a → nat_le a b ≡ false
-more_test a b lt = elim (nat_le a b) as (λ t. nat_le a b ≡ t → t ≡ false) [ false ↦ λ _. refl | true ↦ λ h. let f = leb-true a b h in absurd (omega arith) ] refl
-
--- What is less passes the other.
-pub lt_test : (a b : ℕ) → a < b → nat_lt a b ≡ true
-lt_test a b lt = (Decides-ltb a b).1 lt
-
--- What is not does not.
-pub ge_test : (a b : ℕ) → b ≤ a → nat_lt a b ≡ false
-ge_test a b le = not_so _ (Decides-ltb a b) (λ lt. absurd (omega arith))

@@ -1,9 +1,9 @@
 -- All stored events rise by key, and are found by transaction and rank.
-use Rattle.std.{proofs.lemmas.Grind.common_steps, proofs.Common.{◌≡◌, ℕ, ◌<◌, ◌/◌, ◌%◌, ◌^◌, ◌==◌, nat_lt, true, false, cond, T, List, [], ◌∷◌, ◌++◌, Option, Some, None, map, refl, sym, ap, ◌∙◌, subst, arith}, proofs.lemmas.Bool.Decides.{Decides-eqb, Decides-ltb}, specs.Ordering.{is_eq, is_lt, eq_by_cmp, nat_cmp, ordering_then}, specs.declared.cmp.Ordering.Ordering, specs.declared.cmp.Ordering.TheVariants.{Less, Equal, Greater}, specs.FinMap.{find, nat_cmp-IsAntisymmetric}, specs.FinMap.Entries.{below_all, find-where_key, same_entries}, specs.Cmp.tied_itself, specs.Cmp.Lexicographic.nat_list_cmp_total}
+use Rattle.std.{proofs.lemmas.Grind.common_steps, proofs.Common.{◌≡◌, ℕ, ◌<◌, ◌/◌, ◌%◌, ◌^◌, ◌==◌, nat_lt, true, false, cond, T, List, [], ◌∷◌, ◌++◌, Option, Some, None, map, refl, sym, ap, ◌∙◌, subst, arith}, proofs.lemmas.Bool.Decides.{Decides-eqb, Decides-ltb}, specs.Ordering.{is_lt, eq_by_cmp, nat_cmp, ordering_then}, specs.declared.cmp.Ordering.Ordering, specs.declared.cmp.Ordering.TheVariants.{Less, Equal, Greater}, specs.FinMap.{find, nat_cmp-IsAntisymmetric}, specs.FinMap.Entries.{below_all, find-where_key, same_entries}, specs.Cmp.tied_itself, specs.Cmp.Lexicographic.nat_list_cmp_total}
 use Rattle.ledger_model.{proofs.Callers.{first, second, less, key_total, exact_keys}, proofs.Rising.both, specs.Entries.IsRising, specs.Key.{KeyName, key_cmp}, specs.Content.{Entry, Stored}}
 use Rattle.key_index.specs.Key.{rank}
 use Rattle.event_store.specs.Slots.{Held}
-use Rattle.event_chain.{specs.Table.{TxRow, AreRising, id_cmp, row_of}, specs.Flat.{EventPlace, place_of, entry_of, segment, entries_of, flat, event_at, number_at, look}, specs.Kept.AreRanks, proofs.Decided.{key_test, id_test, rank_test, not_so, denied, same_test}}
+use Rattle.event_chain.{specs.declared.row.TableRow.TableRow, specs.Table.{TxRow, AreRising, id_cmp}, specs.Flat.{EventPlace, place_of, entry_of, segment, entries_of, flat, event_at, number_at, look}, specs.Kept.AreRanks, proofs.Changes.find_none, proofs.Decided.{key_test, id_test, rank_test, not_so, denied, same_test}}
 
 -- The first of two that is there.
 abbrev pub either : {X : Type 0} → Option X → Option X → Option X
@@ -32,9 +32,9 @@ find_entries q tx t slots [] = elim (eq_by_cmp id_cmp q.tx tx) as (λ b. ◌≡�
 find_entries q tx t slots (e ∷ es) =
     let rest = find_entries q tx t slots es in grind (arith, common_steps, key_place, Decides-eqb, not_so, key_test, denied, id_test)
 
--- A rank of a segment is that of all places, where its number is one.
-pub in_segment : (t seq : ℕ) (es : List EventPlace) → place_of (rank t seq) (segment t es) ≡ cond (rank t seq / 2 ^ 31 == t) (place_of (rank t seq) es) None
-in_segment t seq es = find-where_key nat_cmp (λ r. r / 2 ^ 31 == t) (rank t seq) (λ x e. ap (λ r. r / 2 ^ 31 == t) (sym (nat_cmp-IsAntisymmetric (rank t seq) x e))) es
+-- A place of a transaction is that of all, if it is its.
+pub in_segment : (t r : ℕ) (es : List EventPlace) → place_of r (segment t es) ≡ cond (r / 2 ^ 31 == t) (place_of r es) None
+in_segment t r es = find-where_key nat_cmp (λ x. x / 2 ^ 31 == t) r (λ x e. ap (λ k. k / 2 ^ 31 == t) (sym (nat_cmp-IsAntisymmetric r x e))) es
 
 -- A number is one below 2^31.
 number_test : (t seq : ℕ) → (rank t seq / 2 ^ 31 == t) ≡ nat_lt seq (2 ^ 31)
@@ -42,18 +42,13 @@ number_test t seq = same_test _ _ (Decides-eqb (rank t seq / 2 ^ 31) t) (Decides
 
 -- The place of a number, in its transaction's segment.
 pub number_is : (t seq : ℕ) (es : List EventPlace) → place_of (rank t seq) (segment t es) ≡ number_at t seq es
-number_is t seq es = in_segment t seq es ∙ ap (λ b. cond b (place_of (rank t seq) es) None) (number_test t seq)
-
--- Ids below all others are not found.
-pub missing : (tx : List ℕ) (rows : List TxRow) → T (below_all id_cmp tx rows) → row_of tx rows ≡ None
-missing tx [] h = refl
-missing tx (r ∷ rows) h = ap (λ o. cond (is_eq o) (Some r.1) (row_of tx rows)) (less _ (first _ _ h)) ∙ missing tx rows (second _ _ h)
+number_is t seq es = in_segment t (rank t seq) es ∙ ap (λ b. cond b (place_of (rank t seq) es) None) (number_test t seq)
 
 -- What is found among all events is what the tables have.
 pub find_flat : (q : KeyName) (rows : List TxRow) (es : List EventPlace) (slots : List (Option Held)) → AreRising rows → find key_cmp q (flat rows es slots) ≡ look rows es slots q
 find_flat q [] es slots rising = refl
 find_flat q (r ∷ rows) es slots rising =
-    let rest = find_flat q rows es slots (second _ _ rising) in grind (arith, common_steps, find_both, find_entries, number_is, missing, id_test, first)
+    let rest = find_flat q rows es slots (second _ _ rising) in grind (arith, common_steps, find_both, find_entries, number_is, find_none {X = TableRow} id_cmp, id_test, first)
 
 -- A smaller number comes first.
 pub nat_less : (a b : ℕ) → a < b → nat_cmp a b ≡ Less

@@ -1,8 +1,8 @@
 -- The transactions of all events are those of the table.
-use Rattle.std.{proofs.lemmas.Grind.common_steps, proofs.Common.{arith, ◌≡◌, ℕ, ◌/◌, ◌^◌, ◌==◌, false, not, cond, T, List, [], ◌∷◌, ◌++◌, Option, Some, None, is_some, map, refl, sym, ap, ◌∙◌}, specs.List.{filter, list_any}, specs.Str.bytes_eq, proofs.lemmas.List.map-append, specs.Ordering.{is_eq, nat_cmp}, specs.FinMap.Entries.{below_all, is_some-find, find-where_key}, specs.FinMap.nat_cmp-IsAntisymmetric, proofs.lemmas.Slice.Eq.bytes_eq-Decides, proofs.lemmas.Map.Text.is_eq-slice_cmp, proofs.lemmas.Bool.Decides.Decides-eqb}
+use Rattle.std.{proofs.lemmas.Grind.common_steps, proofs.Common.{arith, ◌≡◌, ℕ, ◌/◌, ◌^◌, false, not, cond, T, List, [], ◌∷◌, ◌++◌, Option, Some, None, is_some, map, refl, sym, ap, ◌∙◌}, specs.List.{filter, list_any}, specs.Str.bytes_eq, proofs.lemmas.List.map-append, specs.Ordering.is_eq, specs.FinMap.Entries.{below_all, is_some-find}, proofs.lemmas.Slice.Eq.bytes_eq-Decides, proofs.lemmas.Map.Text.is_eq-slice_cmp, proofs.lemmas.Bool.Decides.Decides-eqb}
 use Rattle.ledger_model.{specs.Content.{Entry, distinct, transactions_of, has_transaction}, proofs.TransactionLemmas.transactions-any, proofs.Callers.{first, second, less}}
 use Rattle.event_store.specs.Slots.{Held}
-use Rattle.event_chain.{specs.declared.row.TableRow.TableRow, specs.Table.{TxRow, AreRising, id_cmp, row_of}, specs.Flat.{EventPlace, place_of, entry_of, segment, entries_of, flat}, specs.Kept.HasPlace, proofs.Decided.{id_test, not_so}, proofs.Flats.missing}
+use Rattle.event_chain.{specs.declared.row.TableRow.TableRow, specs.Table.{TxRow, AreRising, id_cmp, row_of}, specs.Flat.{EventPlace, place_of, entry_of, segment, entries_of, flat}, specs.Kept.HasPlace, proofs.Changes.{find_first, find_rest}, proofs.Decided.id_test, proofs.Flats.in_segment}
 
 -- The ids of entries.
 abbrev ids : List Entry → List (List ℕ)
@@ -34,10 +34,6 @@ others_below x (r ∷ rows) h =
     let apart : bytes_eq x r.0 ≡ false = sym (is_eq-slice_cmp x r.0) ∙ ap is_eq (less _ (first _ _ h)) in
     ap (λ b. cond (not b) (r.0 ∷ others x (names rows)) (others x (names rows))) apart ∙ ap (λ (zs : List (List ℕ)). r.0 ∷ zs) (others_below x rows (second _ _ h))
 
--- What is found is not absent.
-gone : (o : Option TableRow) (row : TableRow) → o ≡ Some row → o ≡ None → ⊥
-gone o row a b = cc
-
 -- Each row's slot has a place.
 abbrev AllFilled : List TxRow → List EventPlace → Type 0
 AllFilled [] es = Unit {0}
@@ -46,14 +42,8 @@ AllFilled (r ∷ rows) es = HasPlace es r.1.slot × AllFilled rows es
 -- That is so where each transaction found has one.
 all_filled : (rows : List TxRow) (es : List EventPlace) → AreRising rows → ((tx : List ℕ) (row : TableRow) → row_of tx rows ≡ Some row → HasPlace es row.slot) → AllFilled rows es
 all_filled [] es rising filled = tt
-all_filled (r ∷ rows) es rising filled = (
-  filled r.0 r.1 (ap (λ b. cond b (Some r.1) (row_of r.0 rows)) ((id_test r.0 r.0).1 refl)),
-  all_filled rows es (second _ _ rising)
-      (λ tx row is. filled tx row
-      (ap (λ b. cond b (Some r.1) (row_of tx rows))
-      (not_so _ (id_test tx r.0) (λ e. gone (row_of tx rows) row is (ap (λ k. row_of k rows) e ∙ missing r.0 rows (first _ _ rising))))
-      ∙ is)),
-)
+all_filled (r ∷ rows) es rising filled =
+    (filled r.0 r.1 (find_first id_cmp id_test r rows), all_filled rows es (second _ _ rising) (λ tx row is. filled tx row (find_rest id_cmp id_test r rows rising tx row is)))
 
 -- What is found in a list makes it no empty one.
 split : (ps : List EventPlace) → (r : ℕ) × ((s : ℕ) × (place_of r ps ≡ Some s)) → (p : EventPlace) × ((rest : List EventPlace) × (ps ≡ p ∷ rest))
@@ -62,14 +52,8 @@ split (p ∷ ps) some = (p, (ps, refl))
 
 -- A slot that has a place has a segment.
 pub some_segment : (t : ℕ) (es : List EventPlace) → HasPlace es t → (p : EventPlace) × ((ps : List EventPlace) × (segment t es ≡ p ∷ ps))
-some_segment t es has = split (segment t es) (
-  has.rank,
-  (
-    has.place,
-    find-where_key nat_cmp (λ r. r / 2 ^ 31 == t) has.rank (λ x e. ap (λ r. r / 2 ^ 31 == t) (sym (nat_cmp-IsAntisymmetric has.rank x e))) es
-        ∙ ap (λ b. cond b (place_of has.rank es) None) ((Decides-eqb (has.rank / 2 ^ 31) t).1 has.slot_is) ∙ has.found,
-  ),
-)
+some_segment t es has = split (segment t es)
+    (has.rank, (has.place, in_segment t has.rank es ∙ ap (λ b. cond b (place_of has.rank es) None) ((Decides-eqb (has.rank / 2 ^ 31) t).1 has.slot_is) ∙ has.found))
 
 -- The transactions are those of the table.
 ids_rows : (rows : List TxRow) (es : List EventPlace) (slots : List (Option Held)) → AreRising rows → AllFilled rows es → transactions_of (flat rows es slots) ≡ names rows

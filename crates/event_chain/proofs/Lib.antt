@@ -6,18 +6,15 @@ mod LinksWritten
 mod TableKept
 pub mod Decided
 mod Flats
+mod Changes
 mod Sums
 mod Named
 mod Places
 mod Looks
-mod Moves
-mod Subs
 mod Figures
-mod Effects
 mod Ids
 mod Ops
 mod Facts
-mod Inserts
 mod Marks
 mod Lives
 mod Drops

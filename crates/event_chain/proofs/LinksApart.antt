@@ -20,7 +20,7 @@ elsewhere_none (x ∷ xs) = (tt, elsewhere_none xs)
 
 -- A list shares no slot with another; nor does it after one more slot of the other that is not in
 -- it.
-elsewhere_more : (xs : List ℕ) (y : ℕ) (ys : List ℕ) → IsApart y xs → AreElsewhere xs ys → AreElsewhere xs (y ∷ ys)
+pub elsewhere_more : (xs : List ℕ) (y : ℕ) (ys : List ℕ) → IsApart y xs → AreElsewhere xs ys → AreElsewhere xs (y ∷ ys)
 elsewhere_more [] y ys absent elsewhere = tt
 elsewhere_more (x ∷ xs) y ys absent elsewhere = (((λ e. absent.0 (sym e)), elsewhere.0), elsewhere_more xs y ys absent.1 elsewhere.1)
 
@@ -29,16 +29,10 @@ pub elsewhere_back : (xs ys : List ℕ) → AreElsewhere xs ys → AreElsewhere 
 elsewhere_back [] ys elsewhere = elsewhere_none ys
 elsewhere_back (x ∷ xs) ys elsewhere = elsewhere_more ys x xs elsewhere.0 (elsewhere_back xs ys elsewhere.1)
 
--- A list that shares no slot with another shares none with its parts.
-pub elsewhere_parts : (xs ys zs : List ℕ) → AreElsewhere xs (ys ++ zs) → AreElsewhere xs ys × AreElsewhere xs zs
-elsewhere_parts [] ys zs elsewhere = (tt, tt)
-elsewhere_parts (x ∷ xs) ys zs elsewhere = let first = absent_parts x ys zs elsewhere.0 in let rest = elsewhere_parts xs ys zs elsewhere.1 in
-    ((first.0, rest.0), (first.1, rest.1))
-
--- A list that shares no slot with two others shares none with both together.
-pub elsewhere_both : (xs ys zs : List ℕ) → AreElsewhere xs ys → AreElsewhere xs zs → AreElsewhere xs (ys ++ zs)
-elsewhere_both [] ys zs a b = tt
-elsewhere_both (x ∷ xs) ys zs a b = (absent_both x ys zs a.0 b.0, elsewhere_both xs ys zs a.1 b.1)
+-- Nor does it after one slot of the other less.
+pub elsewhere_less : (xs : List ℕ) (y : ℕ) (ys : List ℕ) → AreElsewhere xs (y ∷ ys) → AreElsewhere xs ys
+elsewhere_less [] y ys elsewhere = tt
+elsewhere_less (x ∷ xs) y ys elsewhere = (elsewhere.0.1, elsewhere_less xs y ys elsewhere.1)
 
 -- The parts of a list that shares no slot with another share none with it.
 pub parts_elsewhere : (xs ys zs : List ℕ) → AreElsewhere (xs ++ ys) zs → AreElsewhere xs zs × AreElsewhere ys zs

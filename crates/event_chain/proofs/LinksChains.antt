@@ -1,20 +1,11 @@
 -- Chains put together, cut, and left as they are.
 use Rattle.std.{proofs.lemmas.Grind.common_steps, proofs.Common.{arith, ◌≡◌, ℕ, ◌<◌, List, [], ◌∷◌, ◌++◌, Option, Some, None, length, refl, sym, ◌∙◌, subst}}
-use Rattle.event_chain.{specs.Links.{Links, links, linked_in, linked_out, written}, specs.LinkChain.{head_or, last_or, IsChain, IsBeside, AreSlots}, proofs.LinksWritten.length-written, proofs.LinksEnds.{chain_prev_beside, chain_next_beside, chain_prev_first, chain_next_last}}
+use Rattle.event_chain.{specs.Links.{Links, links, linked_in, linked_out, written, prev_of, next_of, IsSlot}, specs.LinkChain.{head_or, last_or, IsChain, IsBeside, AreSlots}, proofs.LinksWritten.{length-written, written_other, written_same, beside_parts}, proofs.LinksEnds.{chain_prev_beside, chain_next_beside, chain_prev_first, chain_next_last}}
 use Rattle.slot_arena.specs.Free.{IsApart, AreApart}
 
 -- The first slot of two lists.
 pub head_append : (after : Option ℕ) (xs ys : List ℕ) → head_or after (xs ++ ys) ≡ head_or (head_or after ys) xs
 head_append after xs ys = grind (arith, common_steps)
-
--- The first slot of a list that has one, whatever comes after the list.
-pub head_some : (after : Option ℕ) (xs : List ℕ) (first : ℕ) → head_or None xs ≡ Some first → head_or after xs ≡ Some first
-head_some after xs first e = grind (arith, common_steps)
-
--- The last slot of a list that has one, whatever comes before the list.
-pub last_some : (before : Option ℕ) (xs : List ℕ) (last : ℕ) → last_or None xs ≡ Some last → last_or before xs ≡ Some last
-last_some before [] last e = absurd (cc)
-last_some before (x ∷ xs) last e = e
 
 -- Two chains are one if the second goes on where the first ends.
 pub chain_both : (l : Links) (before : Option ℕ) (xs ys : List ℕ) (after : Option ℕ) → IsChain l before xs (head_or after ys)
@@ -44,72 +35,49 @@ pub slots_parts : (l : Links) (xs ys : List ℕ) → AreSlots l (xs ++ ys) → A
 slots_parts l [] ys slots = (tt, slots)
 slots_parts l (x ∷ xs) ys slots = let rest = slots_parts l xs ys slots.1 in ((slots.0, rest.0), rest.1)
 
--- A run put in writes as many links as there are.
-pub length-linked_in : (l : Links) (before : Option ℕ) (first last : ℕ) (after : Option ℕ)
-    → (length (linked_in l before first last after).prevs ≡ length l.prevs) × (length (linked_in l before first last after).nexts ≡ length l.nexts)
-length-linked_in l before first last after = grind (arith, common_steps, length-written)
+-- A slot put in writes as many links as there are.
+pub length-linked_in : (l : Links) (before : Option ℕ) (s : ℕ) (after : Option ℕ)
+    → (length (linked_in l before s s after).prevs ≡ length l.prevs) × (length (linked_in l before s s after).nexts ≡ length l.nexts)
+length-linked_in l before s after = grind (arith, common_steps, length-written)
 
--- A run left out, too.
+-- A slot left out, too.
 pub length-linked_out : (l : Links) (before after : Option ℕ) → (length (linked_out l before after).prevs ≡ length l.prevs) × (length (linked_out l before after).nexts ≡ length l.nexts)
 length-linked_out l before after = (length-written l.prevs after before, length-written l.nexts before after)
 
--- A run put in elsewhere leaves a chain.
-pub chain_beside_in : (l : Links) (before : Option ℕ) (first last : ℕ) (after b : Option ℕ) (zs : List ℕ) (a : Option ℕ) → IsBeside before zs → IsApart first zs → IsApart last zs → IsBeside after zs
-    → IsChain l b zs a → IsChain (linked_in l before first last after) b zs a
-chain_beside_in l before first last after b zs a hb hf hl ha chain =
-    let p1 = written l.prevs (Some first) before in let p2 = written p1 after (Some last) in let n1 = written l.nexts (Some last) after in
-    chain_next_beside p2 n1 before (Some first) b zs a hb (
-    chain_next_beside p2 l.nexts (Some last) after b zs a hl (
-    chain_prev_beside p1 l.nexts after (Some last) b zs a ha (
-    chain_prev_beside l.prevs l.nexts (Some first) before b zs a hf chain
-    )
-    )
-    )
+-- A slot put in elsewhere leaves a chain.
+pub chain_beside_in : (l : Links) (before : Option ℕ) (s : ℕ) (after b : Option ℕ) (zs : List ℕ) (a : Option ℕ) → IsBeside before zs → IsApart s zs → IsBeside after zs
+    → IsChain l b zs a → IsChain (linked_in l before s s after) b zs a
+chain_beside_in l before s after b zs a hb hs ha chain =
+    let p1 = written l.prevs (Some s) before in let p2 = written p1 after (Some s) in let n1 = written l.nexts (Some s) after in
+    chain_next_beside p2 n1 before (Some s) b zs a hb
+    (chain_next_beside p2 l.nexts (Some s) after b zs a hs (chain_prev_beside p1 l.nexts after (Some s) b zs a ha (chain_prev_beside l.prevs l.nexts (Some s) before b zs a hs chain)))
 
--- A run left out elsewhere leaves a chain.
+-- A slot left out elsewhere leaves a chain.
 pub chain_beside_out : (l : Links) (before after b : Option ℕ) (zs : List ℕ) (a : Option ℕ) → IsBeside before zs → IsBeside after zs → IsChain l b zs a → IsChain (linked_out l before after) b zs a
 chain_beside_out l before after b zs a hb ha chain = grind (arith, common_steps, chain_next_beside, chain_prev_beside)
 
--- What is in front of a run, once that is put in.
-pub chain_front_in : (l : Links) (front : List ℕ) (first last : ℕ) (next after : Option ℕ) → AreApart front → AreSlots l front → IsApart first front → IsApart last front → IsBeside after front
-    → IsChain l None front next → IsChain (linked_in l (last_or None front) first last after) None front (Some first)
-chain_front_in l front first last next after apart slots hf hl ha chain =
-    let before = last_or None front in let p1 = written l.prevs (Some first) before in let p2 = written p1 after (Some last) in let n1 = written l.nexts (Some last) after in
-    let p_as : length p2 ≡ length l.prevs = length-written p1 after (Some last) ∙ length-written l.prevs (Some first) before in
-    let n_as : length n1 ≡ length l.nexts = length-written l.nexts (Some last) after in
-    chain_next_last p2 n1 (Some first) None front next apart (slots_kept l (links p2 n1) front p_as n_as slots) (
-    chain_next_beside p2 l.nexts (Some last) after None front next hl (
-    chain_prev_beside p1 l.nexts after (Some last) None front next ha (
-    chain_prev_beside l.prevs l.nexts (Some first) before None front next hf chain
-    )
-    )
-    )
+module _ (l : Links) (s : ℕ) where
+  -- What is in front of a slot, once that is put in.
+  pub chain_front_in : (front : List ℕ) (next after : Option ℕ) → AreApart front → AreSlots l front → IsApart s front → IsBeside after front
+      → IsChain l None front next → IsChain (linked_in l (last_or None front) s s after) None front (Some s)
+  chain_front_in front next after apart slots hs ha chain =
+      let before = last_or None front in let p1 = written l.prevs (Some s) before in let p2 = written p1 after (Some s) in let n1 = written l.nexts (Some s) after in
+      chain_next_last p2 n1 (Some s) None front next apart
+      (slots_kept l (links p2 n1) front (length-written p1 after (Some s) ∙ length-written l.prevs (Some s) before) (length-written l.nexts (Some s) after) slots)
+      (chain_next_beside p2 l.nexts (Some s) after None front next hs
+      (chain_prev_beside p1 l.nexts after (Some s) None front next ha (chain_prev_beside l.prevs l.nexts (Some s) before None front next hs chain)))
 
--- The run that is put in.
-pub chain_run_in : (l : Links) (mid : List ℕ) (first last : ℕ) (b a before after : Option ℕ) → head_or None mid ≡ Some first
-    → last_or None mid ≡ Some last → AreApart mid → AreSlots l mid → IsBeside before mid → IsBeside after mid
-    → IsChain l b mid a → IsChain (linked_in l before first last after) before mid after
-chain_run_in l mid first last b a before after is_first is_last apart slots hb ha chain =
-    let p1 = written l.prevs (Some first) before in let p2 = written p1 after (Some last) in let n1 = written l.nexts (Some last) after in
-    let p_as : length p2 ≡ length l.prevs = length-written p1 after (Some last) ∙ length-written l.prevs (Some first) before in
-    let headed : IsChain (links p1 l.nexts) before mid a =
-    subst (λ f. IsChain (links (written l.prevs f before) l.nexts) before mid a) is_first (chain_prev_first l.prevs l.nexts before b mid a apart slots chain) in
-    let beside : IsChain (links p2 l.nexts) before mid a = chain_prev_beside p1 l.nexts after (Some last) before mid a ha headed in
-    let ended : IsChain (links p2 n1) before mid after =
-    subst (λ e. IsChain (links p2 (written l.nexts e after)) before mid after) is_last
-    (chain_next_last p2 l.nexts after before mid a apart (slots_kept l (links p2 l.nexts) mid p_as refl slots) beside) in
-    chain_next_beside p2 n1 before (Some first) before mid after hb ended
+  -- The slot that is put in.
+  pub chain_slot_in : (before after : Option ℕ) → IsSlot l s → IsBeside before (s ∷ []) → IsBeside after (s ∷ [])
+      → (prev_of (linked_in l before s s after) s ≡ before) × (next_of (linked_in l before s s after) s ≡ after)
+  chain_slot_in before after slot hb ha = grind (arith, common_steps, written_other, written_same, beside_parts)
 
--- What is behind a run, once that is put in.
-pub chain_back_in : (l : Links) (back : List ℕ) (first last : ℕ) (prev before : Option ℕ) → AreApart back → AreSlots l back → IsApart first back → IsApart last back → IsBeside before back
-    → IsChain l prev back None → IsChain (linked_in l before first last (head_or None back)) (Some last) back None
-chain_back_in l back first last prev before apart slots hf hl hb chain =
-    let after = head_or None back in let p1 = written l.prevs (Some first) before in let p2 = written p1 after (Some last) in let n1 = written l.nexts (Some last) after in
-    let p_as : length p1 ≡ length l.prevs = length-written l.prevs (Some first) before in
-    chain_next_beside p2 n1 before (Some first) (Some last) back None hb (
-    chain_next_beside p2 l.nexts (Some last) after (Some last) back None hl (
-    chain_prev_first p1 l.nexts (Some last) prev back None apart (slots_kept l (links p1 l.nexts) back p_as refl slots) (
-    chain_prev_beside l.prevs l.nexts (Some first) before prev back None hf chain
-    )
-    )
-    )
+  -- What is behind a slot, once that is put in.
+  pub chain_back_in : (back : List ℕ) (prev before : Option ℕ) → AreApart back → AreSlots l back → IsApart s back → IsBeside before back
+      → IsChain l prev back None → IsChain (linked_in l before s s (head_or None back)) (Some s) back None
+  chain_back_in back prev before apart slots hs hb chain =
+      let after = head_or None back in let p1 = written l.prevs (Some s) before in let p2 = written p1 after (Some s) in let n1 = written l.nexts (Some s) after in
+      chain_next_beside p2 n1 before (Some s) (Some s) back None hb
+      (chain_next_beside p2 l.nexts (Some s) after (Some s) back None hs
+      (chain_prev_first p1 l.nexts (Some s) prev back None apart (slots_kept l (links p1 l.nexts) back (length-written l.prevs (Some s) before) refl slots)
+      (chain_prev_beside l.prevs l.nexts (Some s) before prev back None hs chain)))

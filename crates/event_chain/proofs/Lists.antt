@@ -1,7 +1,8 @@
 -- The linked lists of the live events, under an edit.
-use Rattle.std.{proofs.lemmas.Grind.common_steps, proofs.Common.{arith, ◌≡◌, ◌≢◌, ℕ, ◌<◌, ◌/◌, ◌^◌, ◌==◌, Bool, true, List, [], ◌∷◌, ◌++◌, Option, Some, None, map, slice_get, option_map, replicate, refl, sym, ap, ◌∙◌, subst, inl, inr}, proofs.lemmas.Bool.cases_eq, proofs.lemmas.Bool.Decides.Decides-eqb, proofs.lemmas.List.{map-append, length-replicate}, specs.List.filter, specs.Ordering.nat_cmp, specs.Cmp.nat_cmp_total, specs.FinMap.put, specs.FinMap.Entries.is_sorted-put}
-use Rattle.key_index.{specs.Entries.{last_of, AreRising}, proofs.Orders.last_cons}
-use Rattle.event_chain.{specs.Placed.{Index, index}, specs.Links.{Links, links, linked_in, linked_out, prev_of, next_of, IsSlot}, specs.LinkChain.{head_or, last_or, IsChain, AreElsewhere, AreSlots, IsLinked}, proofs.LinksChains.{chain_parts, slots_parts, length-linked_in, length-linked_out}, proofs.LinksLists.{linked_with_slot, linked_without_slot, linked_beside_in, linked_beside_out}, specs.Flat.{EventPlace, place_of}, specs.Kept.AreRanks, specs.Edits.{out, places_before, places_behind}, specs.Lists.{slot_in, slots_of, slot_before, slot_after, AreOwn, AreListed}, proofs.Members.{AllPlaces, all_found}, proofs.Moves.{put_here, put_other, out_here, out_other}, proofs.Places.ranks_of, proofs.Subs.out_if_ranks, proofs.Splits.{seg_absent, seg_put, seg_put_other, seg_present, seg_out, seg_out_other}}
+use Rattle.std.{proofs.lemmas.Grind.common_steps, proofs.Common.{arith, ◌≡◌, ◌≢◌, ℕ, ◌<◌, ◌/◌, ◌^◌, ◌==◌, Bool, true, not, List, [], ◌∷◌, ◌++◌, Option, Some, None, map, slice_get, option_map, replicate, refl, sym, ap, ◌∙◌, subst, inl, inr}, proofs.lemmas.Bool.cases_eq, proofs.lemmas.Bool.Decides.Decides-eqb, proofs.lemmas.List.{map-append, length-replicate}, specs.List.filter, specs.Ordering.{eq_by_cmp, nat_cmp}, specs.Cmp.nat_cmp_total, specs.FinMap.{put, nat_cmp-IsAntisymmetric}, specs.FinMap.Entries.{is_sorted-put, is_sorted-where_key}}
+use Rattle.key_index.specs.Index as keyed
+use Rattle.key_index.{specs.Entries.{last_of, AreRising}, specs.declared.filed.Mark.TheVariants.Live, proofs.Orders.last_cons}
+use Rattle.event_chain.{specs.Placed.{Index, Placed, index, marked_index, placed}, specs.Links.{Links, links, linked_in, linked_out, prev_of, next_of, IsSlot}, specs.LinkChain.{head_or, last_or, IsChain, AreElsewhere, AreSlots, IsLinked}, proofs.LinksChains.{chain_parts, slots_parts, length-linked_in, length-linked_out}, proofs.LinksLists.{linked_with_slot, linked_without_slot, linked_beside_in, linked_beside_out}, specs.Flat.{EventPlace, place_of}, specs.Kept.AreRanks, specs.Edits.{out, places_before, places_behind, IsSlotFor}, specs.Lists.{slot_in, slots_of, slot_before, slot_after, AreOwn, AreListed, ArePlaced}, proofs.MarkedIndexes.marked_rising, proofs.Members.{AllPlaces, all_found}, proofs.Places.ranks_of, proofs.Changes.{IsChange, change_here, change_other, change_put, change_out}, proofs.Splits.{seg_absent, seg_put, seg_put_other, seg_present, seg_out, seg_out_other}}
 use Rattle.slot_arena.specs.Free.{IsApart}
 
 -- The first slot of places.
@@ -50,17 +51,17 @@ pub lists_elsewhere : (t q : ℕ) (es : List EventPlace) → AreRanks es → Are
 lists_elsewhere t q es ranks own other = elsewhere_left (λ e. e.0 / 2 ^ 31 == t) (slots_of q es) es (all_found (λ p. (p.0 / 2 ^ 31 == t) ≡ true → IsApart p.1 (slots_of q es)) es ranks (λ p at y.
     absent_of p.1 q es ranks (λ r there home. other (sym ((Decides-eqb (p.0 / 2 ^ 31) t).0 y) ∙ ap (λ k. k / 2 ^ 31) (own p.0 r p.1 at there) ∙ home))))
 
--- No slot gets two ranks where one is put in that had none.
-pub own_put : (r0 s0 : ℕ) (es : List EventPlace) → AreOwn es → ((r : ℕ) → place_of r es ≡ Some s0 → ⊥) → AreOwn (put nat_cmp r0 s0 es)
-own_put r0 s0 es own unused q r s a b = grind (arith, common_steps, cases_eq, put_here, put_other)
-
--- What is there is not gone.
-not_gone : (o : Option ℕ) (s : ℕ) → o ≡ Some s → o ≡ None → ⊥
-not_gone o s a b = cc
-
--- Nor where one is taken out.
-pub own_out : (r0 : ℕ) (es : List EventPlace) → AreOwn es → AreOwn (out r0 es)
-own_out r0 es own q r s a b = grind (arith, common_steps, out_other, not_gone, out_here)
+-- No slot gets two ranks where a slot without one is put in, or one is taken out.
+own_change : (r0 : ℕ) (o : Option ℕ) (es more : List EventPlace) → AreOwn es → IsChange nat_cmp r0 o es more → ((r s : ℕ) → o ≡ Some s → place_of r es ≡ Some s → ⊥) → AreOwn more
+own_change r0 o es more own change unused q r s a b =
+    let here = change_here nat_cmp nat_cmp_total nat_cmp-IsAntisymmetric r0 o es more change in let same = change_other nat_cmp nat_cmp_total nat_cmp-IsAntisymmetric r0 o es more change in
+    elim (cases_eq q r0) [
+      | inl x ↦ elim (cases_eq r r0) [ inl y ↦ x ∙ sym y | inr y ↦ absurd (unused r s (sym here ∙ ap (λ k. place_of k more) (sym x) ∙ a) (sym (same r y) ∙ b)) ]
+      | inr x ↦ elim (cases_eq r r0) [
+        | inl y ↦ absurd (unused q s (sym here ∙ ap (λ k. place_of k more) (sym y) ∙ b) (sym (same q x) ∙ a))
+        | inr y ↦ own q r s (sym (same q x) ∙ a) (sym (same r y) ∙ b)
+      ]
+    ]
 
 -- What is in front of a place put in, and what behind it.
 abbrev pub front_of : ℕ → List EventPlace → List ℕ
@@ -74,8 +75,8 @@ abbrev pub IsSide : Links → Option ℕ → Type 0
 IsSide l o = (x : ℕ) → o ≡ Some x → IsSlot l x
 
 -- Links and an index, made of the same.
-pub listed_same : (a b : Index) (l m : Links) → a.entries ≡ b.entries → a.capacity ≡ b.capacity → l ≡ m → AreListed b m → AreListed a l
-listed_same a b l m entries capacity same h = subst (λ (x : Index). AreListed x l) (sym (λ i. index (entries i) (capacity i))) (subst (AreListed b) (sym same) h)
+pub listed_same : (a b : Index) (l m : Links) → a ≡ b → l ≡ m → AreListed b m → AreListed a l
+listed_same a b l m same links h = subst (λ x. AreListed x l) (sym same) (subst (AreListed b) (sym links) h)
 
 module _ (live : Index) (l : Links) (listed : AreListed live l) (rising : AreRising live.entries) (r : ℕ) where
   abbrev es : List EventPlace
@@ -127,7 +128,8 @@ module _ (live : Index) (l : Links) (listed : AreListed live l) (rising : AreRis
       pub listed_put : AreListed (index more live.capacity) m
       listed_put =
           let up : AreRanks more = is_sorted-put nat_cmp nat_cmp_total r s es (ranks_of es rising) in
-          let lens = length-linked_in l (slot_before r es) s s (slot_after r es) in let own = own_put r s es listed.own unused in
+          let lens = length-linked_in l (slot_before r es) s (slot_after r es) in
+          let own = own_change r (Some s) es more listed.own (change_put true r s (Some s) live (index more live.capacity) refl none refl) (λ k x e at. unused k (at ∙ sym e)) in
           record {
             prevs = lens.0 ∙ listed.prevs;
             nexts = lens.1 ∙ listed.nexts;
@@ -138,7 +140,7 @@ module _ (live : Index) (l : Links) (listed : AreListed live l) (rising : AreRis
               | inr other ↦
                   let apart = subst (λ zs. AreElsewhere zs (slots_of q more)) more_is (lists_elsewhere t q more up own other) in
                   let same = ap (map slot_in) (seg_put_other r es rising none s q other) in
-                  subst (λ x. IsLinked x (slots_of q more)) linked (linked_beside_in l front (s ∷ []) back (slots_of q more) s s refl refl apart (subst (IsLinked l) (sym same) (listed.lists q)))
+                  subst (λ x. IsLinked x (slots_of q more)) linked (linked_beside_in l front s back (slots_of q more) apart (subst (IsLinked l) (sym same) (listed.lists q)))
             ];
           }
 
@@ -181,8 +183,9 @@ module _ (live : Index) (l : Links) (listed : AreListed live l) (rising : AreRis
     -- The links with a slot left out.
     pub listed_out : AreListed (index fewer live.capacity) left
     listed_out =
-        let up : AreRanks fewer = out_if_ranks true r es (ranks_of es rising) in
-        let lens = length-linked_out l (slot_before r es) (slot_after r es) in let own = own_out r es listed.own in
+        let up : AreRanks fewer = is_sorted-where_key nat_cmp (λ x. not (eq_by_cmp nat_cmp r x)) es (ranks_of es rising) in
+        let lens = length-linked_out l (slot_before r es) (slot_after r es) in
+        let own = own_change r None es fewer listed.own (change_out r None live (index fewer live.capacity) refl refl) (λ k x e _. let f : None ≡ Some x = e in cc) in
         record {
           prevs = lens.0 ∙ listed.prevs;
           nexts = lens.1 ∙ listed.nexts;
@@ -200,3 +203,49 @@ module _ (live : Index) (l : Links) (listed : AreListed live l) (rising : AreRis
 -- No links, no lists.
 pub listed_none : (n : ℕ) → AreListed (index [] n) (links (replicate n None) (replicate n None))
 listed_none n = grind (arith, common_steps, length-replicate)
+
+module _ {i : keyed.Index ℕ} {l : Links} {p : Placed} (kept : ArePlaced i l) (view : placed i ≡ p) where
+  abbrev lives : Index
+  lives = marked_index (Some Live) i
+
+  rises : AreRising lives.entries
+  rises = marked_rising (Some Live) i.entries kept.rising
+
+  module _ (key : ℕ) {slot : ℕ} (at : place_of key p.live.entries ≡ Some slot) where
+    live_at : place_of key lives.entries ≡ Some slot
+    live_at = ap (λ (x : Placed). place_of key x.live.entries) view ∙ at
+
+    -- The slot of a live event is one.
+    pub live_slot : IsSlot l slot
+    live_slot = slot_present lives l kept.listed rises key slot live_at
+
+    -- Its links lead to the slots of the places on either side.
+    pub live_next : next_of l slot ≡ slot_after key p.live.entries
+    live_next = next_present lives l kept.listed rises key slot live_at ∙ ap (λ (x : Placed). slot_after key x.live.entries) view
+
+    -- These are slots.
+    pub live_sides : IsSide l (prev_of l slot) × IsSide l (next_of l slot)
+    live_sides = let sides = sides_present lives l kept.listed rises key slot live_at in (
+      (λ x is. sides.0 x (sym (prev_present lives l kept.listed rises key slot live_at) ∙ is)),
+      (λ x is. sides.1 x (sym (next_present lives l kept.listed rises key slot live_at) ∙ is)),
+    )
+
+    -- The lists with it left out.
+    pub placed_out : (j : keyed.Index ℕ) (m : Links) → AreRising j.entries → marked_index (Some Live) j ≡ index (out key lives.entries) lives.capacity
+        → m ≡ linked_out l (prev_of l slot) (next_of l slot) → ArePlaced j m
+    placed_out j m up same links = record {
+      rising = up;
+      listed = listed_same (marked_index (Some Live) j) (index (out key lives.entries) lives.capacity) m _ same
+          (links ∙ (λ k. linked_out l (prev_present lives l kept.listed rises key slot live_at k) (next_present lives l kept.listed rises key slot live_at k)))
+          (listed_out lives l kept.listed rises key slot live_at);
+    }
+
+  -- The lists with a slot put in.
+  pub placed_in : (key slot : ℕ) (j : keyed.Index ℕ) (m : Links) → place_of key p.live.entries ≡ None → IsSlotFor slot p → AreRising j.entries
+      → marked_index (Some Live) j ≡ index (put nat_cmp key slot lives.entries) lives.capacity
+      → m ≡ linked_in l (slot_before key lives.entries) slot slot (slot_after key lives.entries) → ArePlaced j m
+  placed_in key slot j m none slot_for up same links = let own = subst (IsSlotFor slot) (sym view) slot_for in record {
+    rising = up;
+    listed = listed_same (marked_index (Some Live) j) (index (put nat_cmp key slot lives.entries) lives.capacity) m _ same links
+        (listed_put lives l kept.listed rises key (ap (λ (x : Placed). place_of key x.live.entries) view ∙ none) slot own.within own.unused);
+  }

@@ -1,9 +1,9 @@
 -- The live events of a transaction are those of its segment of an index.
-use Rattle.std.{proofs.lemmas.Grind.common_steps, proofs.Common.{◌≡◌, ℕ, zero, suc, ◌/◌, ◌^◌, ◌==◌, Bool, true, false, not, cond, ◌&&◌, T, List, [], ◌∷◌, Option, Some, None, is_some, length, map, sum_by, refl, sym, ap, ◌∙◌, subst, arith, append-nil, slice_get, option_map, unwrap_or, ◌-◌}, specs.List.{filter, count_by, filter_map}, proofs.lemmas.List.length-map, specs.Str.bytes_eq, specs.Ordering.{is_eq, eq_by_cmp, nat_cmp}, specs.FinMap.find, specs.FinMap.Entries.below_all, proofs.lemmas.Slice.Eq.bytes_eq-Decides}
+use Rattle.std.{proofs.lemmas.Grind.common_steps, proofs.Common.{◌≡◌, ℕ, ◌/◌, ◌^◌, ◌==◌, Bool, true, false, not, cond, ◌&&◌, T, List, [], ◌∷◌, Option, Some, None, is_some, length, map, sum_by, refl, sym, ap, ◌∙◌, subst, arith, append-nil, slice_get, option_map, unwrap_or, ◌-◌}, specs.List.{filter, count_by, filter_map}, proofs.lemmas.List.length-map, proofs.lemmas.Option.slice_get-map, proofs.lemmas.Simd.map-map, specs.Str.bytes_eq, specs.Ordering.{eq_by_cmp, nat_cmp}, specs.FinMap.find, specs.FinMap.Entries.below_all, proofs.lemmas.Slice.Eq.bytes_eq-Decides, proofs.lemmas.Bool.Decides.Decides-eqb}
 use Rattle.key_index.{specs.Entries.last_of, specs.Key.rank}
 use Rattle.ledger_model.{specs.Evse.{first_or_zero, evse_of}, specs.Key.{KeyName, key_cmp}, specs.Content.{Entry, Stored, live_of}, specs.Entries.IsRising, proofs.Callers.{first, second, find_below}, proofs.Rising.both, specs.Complete.kinds_of, specs.Gaps.numbers_of}
 use Rattle.event_store.specs.Slots.{Held}
-use Rattle.event_chain.{specs.declared.row.TableRow.TableRow, specs.Table.{TxRow, AreRising, row_of}, specs.Flat.{EventPlace, place_of, entry_of, segment, flat, event_at, number_at, look_in, look}, specs.Kept.{AreRanks, HasPlace, IsBare, IsSub, chosen, is_live, is_naming, is_end, live_one, end_one}, specs.Edits.{first_under, last_under, kind_in, evse_at}, specs.EventLines.{events_of, line_at, line_of}, specs.Walk.{number_in, numbers_at}, proofs.Decided.{key_test, id_test, rank_test, denied, not_so}, proofs.Flats.{find_entries, number_is, find_flat, flat_rising, same_flat, entries_rising, nat_less, less_nat}}
+use Rattle.event_chain.{specs.declared.row.TableRow.TableRow, specs.Table.{TxRow, AreRising, row_of}, specs.Flat.{EventPlace, place_of, entry_of, segment, flat, event_at, number_at, look_in, look}, specs.Kept.{AreRanks, HasPlace, IsBare, IsKeyed, IsSub, chosen, is_live, is_naming, is_end, live_one, end_one}, specs.Edits.{first_under, last_under, evse_at}, specs.EventLines.{events_of, line_at, line_of}, specs.Walk.{number_in, numbers_at}, proofs.Changes.{find_first, find_rest}, proofs.Decided.{key_test, id_test, rank_test, denied, not_so}, proofs.Flats.{find_entries, number_is, find_flat, flat_rising, same_flat, entries_rising}}
 
 -- An event, where it passes a test.
 abbrev pub passing : (Stored → Bool) → Option Stored → Option Stored
@@ -104,42 +104,27 @@ ends_length tx es = ap (λ (xs : List Entry). count_by is_end (map (λ e. e.1.ev
   counted [] = refl
   counted (e ∷ xs) = grind (arith, common_steps, counted xs)
 
--- The first of what a list is turned into.
-pub first_map : {X Y : Type 0} (f : X → Y) (xs : List X) → slice_get (map f xs) 0 ≡ option_map f (slice_get xs 0)
-first_map f [] = refl
-first_map f (x ∷ xs) = refl
+-- The places of a transaction in an index, if it is known.
+abbrev pub places_under : List EventPlace → Option TableRow → List EventPlace
+places_under es None = []
+places_under es (Some row) = segment row.slot es
 
--- The numbers of places are those of their events.
-numbers_map : (tx : List ℕ) (slots : List (Option Held)) (ps : List EventPlace) → map (λ (e : Entry). e.0.seq) (map (entry_of tx slots) ps) ≡ map number_in ps
-numbers_map tx slots [] = refl
-numbers_map tx slots (p ∷ ps) = ap (λ (ns : List ℕ). number_in p ∷ ns) (numbers_map tx slots ps)
+-- The first of them.
+first_is : (es : List EventPlace) (o : Option TableRow) → slice_get (places_under es o) 0 ≡ first_under es o
+first_is es None = refl
+first_is es (Some row) = refl
 
--- The live numbers of a transaction are those of its live places.
-pub live_numbers : (rows : List TxRow) (es lives : List EventPlace) (slots : List (Option Held)) → AreRising rows → AreRanks es
-    → IsSub is_live es slots lives → (tx : List ℕ)
-    → numbers_of tx (flat rows es slots) ≡ numbers_at lives (option_map (λ r. r.slot) (row_of tx rows))
-live_numbers rows es lives slots rising ranks sub tx = told (row_of tx rows) refl where
-  told : (o : Option TableRow) → row_of tx rows ≡ o → numbers_of tx (flat rows es slots) ≡ numbers_at lives (option_map (λ r. r.slot) o)
-  told None is = ap (λ (xs : List Entry). map (λ e. e.0.seq) xs) (live_of_is tx (flat rows es slots) ∙ none_passing rows es slots rising ranks is_live tx is)
-  told (Some row) is = ap (λ (xs : List Entry). map (λ e. e.0.seq) xs) (live_of_is tx (flat rows es slots) ∙ segment_passing rows es slots rising ranks is_live lives sub tx row is)
-      ∙ numbers_map tx slots (segment row.slot lives)
+-- The last one.
+last_is : (es : List EventPlace) (o : Option TableRow) → last_of (places_under es o) ≡ last_under es o
+last_is es None = refl
+last_is es (Some row) = refl
 
--- The last of what a list is turned into.
-last_map : {X Y : Type 0} (f : X → Y) (xs : List X) (n : ℕ) → slice_get (map f xs) n ≡ option_map f (slice_get xs n)
-last_map f [] n = refl
-last_map f (x ∷ xs) zero = refl
-last_map f (x ∷ xs) (suc n) = last_map f xs n
+-- Their numbers.
+numbers_are : (es : List EventPlace) (o : Option TableRow) → map number_in (places_under es o) ≡ numbers_at es (option_map (λ r. r.slot) o)
+numbers_are es None = refl
+numbers_are es (Some row) = refl
 
--- The last of what places are turned into.
-last_turned : {Y : Type 0} (g : EventPlace → Y) (ps : List EventPlace) → slice_get (map g ps) (length (map g ps) - 1) ≡ option_map g (last_of ps)
-last_turned g ps = ap (λ n. slice_get (map g ps) (n - 1)) (length-map ps g) ∙ last_map g ps (length ps - 1)
-
--- What entries of places are turned into.
-turned_map : {Y : Type 0} (f : Entry → Y) (tx : List ℕ) (slots : List (Option Held)) (ps : List EventPlace) → map f (map (entry_of tx slots) ps) ≡ map (λ p. f (entry_of tx slots p)) ps
-turned_map f tx slots [] = refl
-turned_map {Y = Y} f tx slots (p ∷ ps) = ap (λ (ys : List Y). f (entry_of tx slots p) ∷ ys) (turned_map f tx slots ps)
-
--- All events of a transaction are those of its places.
+-- All events pass this test.
 any : Stored → Bool
 any s = true
 
@@ -154,64 +139,38 @@ unfolding any
 passing_any tx [] = refl
 passing_any tx (e ∷ es) = grind (arith, common_steps, passing_any tx es)
 
-pub events_under : (rows : List TxRow) (es : List EventPlace) (slots : List (Option Held)) → AreRising rows → AreRanks es
-    → (tx : List ℕ) (row : TableRow) → row_of tx rows ≡ Some row
-    → events_of tx (flat rows es slots) ≡ map (line_at slots) (segment row.slot es)
-events_under rows es slots rising ranks tx row is =
-    ap (map (λ (e : Entry). line_of e.0.seq e.1)) (passing_any tx (flat rows es slots) ∙ segment_passing rows es slots rising ranks any es (all_sub es slots ranks) tx row is)
-    ∙ turned_map (λ (e : Entry). line_of e.0.seq e.1) tx slots (segment row.slot es)
+module _ {rows : List TxRow} {es : List EventPlace} {slots : List (Option Held)} (keyed : IsKeyed rows es slots) (tx : List ℕ) where
+  -- What a transaction's events that pass a test are turned into, by their places.
+  turned : {Y : Type 0} (f : Entry → Y) (test : Stored → Bool) (sub : List EventPlace) → IsSub test es slots sub
+      → map f (passing_of test tx (flat rows es slots)) ≡ map (λ p. f (entry_of tx slots p)) (places_under sub (row_of tx rows))
+  turned {Y = Y} f test sub is_sub = told (row_of tx rows) refl where
+    told : (o : Option TableRow) → row_of tx rows ≡ o → map f (passing_of test tx (flat rows es slots)) ≡ map (λ p. f (entry_of tx slots p)) (places_under sub o)
+    told None is = ap (map f) (none_passing rows es slots keyed.rising keyed.ranks test tx is)
+    told (Some row) is = ap (map f) (segment_passing rows es slots keyed.rising keyed.ranks test sub is_sub tx row is) ∙ map-map f (entry_of tx slots) (segment row.slot sub)
 
-pub events_absent : (rows : List TxRow) (es : List EventPlace) (slots : List (Option Held)) → AreRising rows → AreRanks es
-    → (tx : List ℕ) → row_of tx rows ≡ None → events_of tx (flat rows es slots) ≡ []
-events_absent rows es slots rising ranks tx is = ap (map (λ (e : Entry). line_of e.0.seq e.1)) (passing_any tx (flat rows es slots) ∙ none_passing rows es slots rising ranks any tx is)
+  -- The events of a transaction, by its places.
+  pub events_under : events_of tx (flat rows es slots) ≡ map (line_at slots) (places_under es (row_of tx rows))
+  events_under = ap (map (λ (e : Entry). line_of e.0.seq e.1)) (passing_any tx (flat rows es slots)) ∙ turned (λ e. line_of e.0.seq e.1) any es (all_sub es slots keyed.ranks)
 
-module _ {Y : Type 0} (f : Entry → Y) (rows : List TxRow) (es lives : List EventPlace) (slots : List (Option Held))
-    (rising : AreRising rows) (ranks : AreRanks es) (sub : IsSub is_live es slots lives) (tx : List ℕ) where
-  -- All events.
-  abbrev whole : List Entry
-  whole = flat rows es slots
+  module _ {lives : List EventPlace} (sub : IsSub is_live es slots lives) where
+    live_turned : {Y : Type 0} (f : Entry → Y) → map f (live_of tx (flat rows es slots)) ≡ map (λ p. f (entry_of tx slots p)) (places_under lives (row_of tx rows))
+    live_turned f = ap (map f) (live_of_is tx (flat rows es slots)) ∙ turned f is_live lives sub
 
-  -- The first live event of a transaction is that of its first live place.
-  first_live : slice_get (map f (live_of tx whole)) 0 ≡ option_map (λ p. f (entry_of tx slots p)) (first_under lives (row_of tx rows))
-  first_live = told (row_of tx rows) refl where
-    told : (o : Option TableRow) → row_of tx rows ≡ o → slice_get (map f (live_of tx whole)) 0 ≡ option_map (λ p. f (entry_of tx slots p)) (first_under lives o)
-    told None is = ap (λ (xs : List Entry). slice_get (map f xs) 0) (live_of_is tx whole ∙ none_passing rows es slots rising ranks is_live tx is)
-    told (Some row) is =
-        ap (λ (xs : List Entry). slice_get (map f xs) 0) (live_of_is tx whole ∙ segment_passing rows es slots rising ranks is_live lives sub tx row is)
-        ∙ ap (λ ys. slice_get ys 0) (turned_map f tx slots (segment row.slot lives)) ∙ first_map (λ p. f (entry_of tx slots p)) (segment row.slot lives)
+    -- The live numbers of a transaction are those of its live places.
+    pub live_numbers : numbers_of tx (flat rows es slots) ≡ numbers_at lives (option_map (λ r. r.slot) (row_of tx rows))
+    live_numbers = live_turned (λ e. e.0.seq) ∙ numbers_are lives (row_of tx rows)
 
-  -- The last is that of its last one.
-  last_live : let ys = map f (live_of tx whole) in slice_get ys (length ys - 1) ≡ option_map (λ p. f (entry_of tx slots p)) (last_under lives (row_of tx rows))
-  last_live = told (row_of tx rows) refl where
-    told : (o : Option TableRow) → row_of tx rows ≡ o → let ys = map f (live_of tx whole) in slice_get ys (length ys - 1) ≡ option_map (λ p. f (entry_of tx slots p)) (last_under lives o)
-    told None is = ap (λ (xs : List Entry). slice_get (map f xs) (length (map f xs) - 1)) (live_of_is tx whole ∙ none_passing rows es slots rising ranks is_live tx is)
-    told (Some row) is =
-        ap (λ (xs : List Entry). slice_get (map f xs) (length (map f xs) - 1)) (live_of_is tx whole ∙ segment_passing rows es slots rising ranks is_live lives sub tx row is)
-        ∙ ap (λ ys. slice_get ys (length ys - 1)) (turned_map f tx slots (segment row.slot lives)) ∙ last_turned (λ p. f (entry_of tx slots p)) (segment row.slot lives)
+    module _ {Y : Type 0} (f : Entry → Y) where
+      -- The first live event of a transaction is that of its first live place.
+      pub first_live : slice_get (map f (live_of tx (flat rows es slots))) 0 ≡ option_map (λ p. f (entry_of tx slots p)) (first_under lives (row_of tx rows))
+      first_live = ap (λ ys. slice_get ys 0) (live_turned f) ∙ slice_get-map (λ p. f (entry_of tx slots p)) (places_under lives (row_of tx rows)) 0
+          ∙ ap (option_map (λ p. f (entry_of tx slots p))) (first_is lives (row_of tx rows))
 
--- The first live number of a transaction is that of its first live place.
-pub first_number : (rows : List TxRow) (es lives : List EventPlace) (slots : List (Option Held)) → AreRising rows → AreRanks es
-    → IsSub is_live es slots lives → (tx : List ℕ)
-    → slice_get (numbers_of tx (flat rows es slots)) 0 ≡ option_map number_in (first_under lives (row_of tx rows))
-first_number rows es lives slots rising ranks sub tx = first_live (λ e. e.0.seq) rows es lives slots rising ranks sub tx
-
--- The last is that of its last one.
-pub last_number : (rows : List TxRow) (es lives : List EventPlace) (slots : List (Option Held)) → AreRising rows → AreRanks es
-    → IsSub is_live es slots lives → (tx : List ℕ)
-    → let numbers = numbers_of tx (flat rows es slots) in slice_get numbers (length numbers - 1) ≡ option_map number_in (last_under lives (row_of tx rows))
-last_number rows es lives slots rising ranks sub tx = last_live (λ e. e.0.seq) rows es lives slots rising ranks sub tx
-
--- The first kind of a transaction is that of its first live place.
-pub first_kind : (rows : List TxRow) (es lives : List EventPlace) (slots : List (Option Held)) → AreRising rows → AreRanks es
-    → IsSub is_live es slots lives → (tx : List ℕ)
-    → slice_get (kinds_of tx (flat rows es slots)) 0 ≡ option_map (kind_in slots) (first_under lives (row_of tx rows))
-first_kind rows es lives slots rising ranks sub tx = first_live (λ e. e.1.event.kind) rows es lives slots rising ranks sub tx
-
--- The last is that of its last one.
-pub last_kind : (rows : List TxRow) (es lives : List EventPlace) (slots : List (Option Held)) → AreRising rows → AreRanks es
-    → IsSub is_live es slots lives → (tx : List ℕ)
-    → let kinds = kinds_of tx (flat rows es slots) in slice_get kinds (length kinds - 1) ≡ option_map (kind_in slots) (last_under lives (row_of tx rows))
-last_kind rows es lives slots rising ranks sub tx = last_live (λ e. e.1.event.kind) rows es lives slots rising ranks sub tx
+      -- The last is that of its last one.
+      pub last_live : let ys = map f (live_of tx (flat rows es slots)) in slice_get ys (length ys - 1) ≡ option_map (λ p. f (entry_of tx slots p)) (last_under lives (row_of tx rows))
+      last_live = let g = λ (p : EventPlace). f (entry_of tx slots p) in let ps = places_under lives (row_of tx rows) in
+          ap (λ ys. slice_get ys (length ys - 1)) (live_turned f) ∙ ap (λ n. slice_get (map g ps) (n - 1)) (length-map ps g)
+          ∙ slice_get-map g ps (length ps - 1) ∙ ap (option_map g) (last_is lives (row_of tx rows))
 
 -- The EVSE of an entry, or 0.
 abbrev evse_first : Option Entry → ℕ
@@ -230,10 +189,9 @@ evse_naming tx [] = refl
 evse_naming tx (e ∷ es) = let rest = evse_naming tx es in named e (bytes_eq tx e.0.tx) e.1.voided e.1.event.evse refl (passing_of is_live tx es) (passing_of is_naming tx es) rest
 
 -- The EVSE of a transaction is that of its first naming place.
-pub evse_number : (rows : List TxRow) (es names : List EventPlace) (slots : List (Option Held)) → AreRising rows → AreRanks es
-    → IsSub is_naming es slots names → (tx : List ℕ)
-    → evse_of tx (flat rows es slots) ≡ evse_at slots (first_under names (row_of tx rows))
-evse_number rows es names slots rising ranks sub tx =
+pub evse_number : {rows : List TxRow} {es names : List EventPlace} {slots : List (Option Held)} → IsKeyed rows es slots
+    → IsSub is_naming es slots names → (tx : List ℕ) → evse_of tx (flat rows es slots) ≡ evse_at slots (first_under names (row_of tx rows))
+evse_number {rows = rows} {es = es} {names = names} {slots = slots} keyed sub tx =
     ap (λ (xs : List Entry). first_or_zero (filter_map (λ e. e.1.event.evse) xs)) (live_of_is tx (flat rows es slots)) ∙ evse_naming tx (flat rows es slots) ∙ told (row_of tx rows) refl where
       placed : (ps : List EventPlace) → evse_first (slice_get (map (entry_of tx slots) ps) 0) ≡ evse_at slots (slice_get ps 0)
       placed [] = refl
@@ -242,34 +200,19 @@ evse_number rows es names slots rising ranks sub tx =
       told : (o : Option TableRow) → row_of tx rows ≡ o → evse_first (slice_get (passing_of is_naming tx (flat rows es slots)) 0) ≡ evse_at slots (first_under names o)
       told o is = grind (arith, common_steps, none_passing, segment_passing, placed)
 
--- A rank below all is not found.
-pub below_none : (r : ℕ) (es : List EventPlace) → T (below_all nat_cmp r es) → place_of r es ≡ None
-below_none r [] h = refl
-below_none r (e ∷ es) h = ap (λ o. cond (is_eq o) (Some e.1) (place_of r es)) (nat_less r e.0 (less_nat r e.0 (first _ _ h))) ∙ below_none r es (second _ _ h)
-
--- What is found is not absent.
-never : (o : Option ℕ) (s : ℕ) → o ≡ Some s → o ≡ None → ⊥
-never o s a b = cc
-
--- The first of a segment is found.
-seg_found : (t : ℕ) (es : List EventPlace) (p : EventPlace) → AreRanks es → slice_get (segment t es) 0 ≡ Some p → place_of p.0 es ≡ Some p.1
-seg_found t [] p h is = cc
-seg_found t (e ∷ es) p h is =
-    elim (e.0 / 2 ^ 31 == t) as (λ b. slice_get (cond b (e ∷ segment t es) (segment t es)) 0 ≡ Some p → place_of p.0 (e ∷ es) ≡ Some p.1) [
-      | true ↦ λ some. let same : e ≡ p = cc in subst (λ (k : EventPlace). place_of k.0 (e ∷ es) ≡ Some k.1) same (ap (λ b. cond b (Some e.1) (place_of e.0 es)) ((rank_test e.0 e.0).1 refl))
-      | false ↦ λ some. let rest = seg_found t es p (second _ _ h) some in
-          ap (λ b. cond b (Some e.1) (place_of p.0 es)) (not_so _ (rank_test p.0 e.0) (λ k. never (place_of p.0 es) p.1 rest (ap (λ r. place_of r es) k ∙ below_none e.0 es (first _ _ h)))) ∙ rest
-    ] is
-
--- The first of a segment is of its transaction.
-seg_home : (t : ℕ) (es : List EventPlace) (p : EventPlace) → slice_get (segment t es) 0 ≡ Some p → p.0 / 2 ^ 31 ≡ t
-seg_home t [] p is = cc
-seg_home t (e ∷ es) p is = grind (arith, common_steps, seg_home t es p)
+-- The first place that is left is found, and passes the test.
+pub first_left : (f : EventPlace → Bool) (es : List EventPlace) (p : EventPlace) → AreRanks es → slice_get (filter f es) 0 ≡ Some p → (place_of p.0 es ≡ Some p.1) × (f p ≡ true)
+first_left f [] p h is = cc
+first_left f (e ∷ es) p h is = elim (f e) as (λ b. f e ≡ b → slice_get (cond b (e ∷ filter f es) (filter f es)) 0 ≡ Some p → (place_of p.0 (e ∷ es) ≡ Some p.1) × (f p ≡ true)) [
+  | true ↦ λ y some. let same : e ≡ p = cc in subst (λ (k : EventPlace). (place_of k.0 (e ∷ es) ≡ Some k.1) × (f k ≡ true)) same (find_first nat_cmp rank_test e es, y)
+  | false ↦ λ _ some. let rest = first_left f es p (second _ _ h) some in (find_rest nat_cmp rank_test e es h p.0 p.1 rest.0, rest.1)
+] refl is
 
 -- Where a segment has a first place, its transaction has one.
 pub seg_some : (t : ℕ) (es : List EventPlace) (o : Option EventPlace) → AreRanks es → o ≡ slice_get (segment t es) 0 → is_some o ≡ true → HasPlace es t
 seg_some t es None ranks is some = cc
-seg_some t es (Some p) ranks is some = record { rank = p.0; place = p.1; found = seg_found t es p ranks (sym is); slot_is = seg_home t es p (sym is) }
+seg_some t es (Some p) ranks is some = let own = first_left (λ e. e.0 / 2 ^ 31 == t) es p ranks (sym is) in
+    record { rank = p.0; place = p.1; found = own.0; slot_is = (Decides-eqb (p.0 / 2 ^ 31) t).0 own.1 }
 
 -- Where it has none, its transaction has none.
 pub seg_bare : (t : ℕ) (es : List EventPlace) (o : Option EventPlace) → o ≡ slice_get (segment t es) 0 → is_some o ≡ false → IsBare es t

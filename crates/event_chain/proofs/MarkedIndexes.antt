@@ -1,9 +1,9 @@
 -- The places of an index that have a mark, or all: how its edits change them.
-use Rattle.std.{proofs.lemmas.Grind.common_steps, proofs.Common.{◌≡◌, ℕ, ◌≤◌, nat_lt, ◌==◌, Bool, true, false, cond, List, [], ◌∷◌, ◌++◌, Option, Some, None, is_some, map, option_map, drop, refl, sym, ap, ◌∙◌, subst, arith}, proofs.lemmas.Bool.Decides.Decides-eqb, proofs.lemmas.List.map-append, proofs.lemmas.List.Elements.filter-append, specs.Ordering.nat_cmp, specs.FinMap.put}
+use Rattle.std.{proofs.lemmas.Grind.common_steps, proofs.Common.{◌≡◌, ℕ, ◌≤◌, ◌==◌, Bool, true, false, cond, List, [], ◌∷◌, ◌++◌, Option, Some, None, is_some, length, ◌-◌, slice_get, map, option_map, drop, refl, sym, ap, ◌∙◌, subst, arith}, proofs.lemmas.Bool.Decides.Decides-eqb, proofs.lemmas.List.{append_cancel_left, length-map, map-append}, proofs.lemmas.Option.slice_get-map, proofs.lemmas.List.Elements.filter-append, specs.Ordering.nat_cmp, specs.FinMap.put}
 use Rattle.ledger_model.{proofs.Directions.each_way, specs.declared.by_direction.ByDirection.ByDirection, specs.declared.reading.Direction.TheVariants.{Import, Export}}
 use Rattle.key_index.specs.Index as keyed
-use Rattle.key_index.{specs.declared.filed.Mark.Mark, specs.declared.filed.Mark.TheVariants.{Live, Imports, Exports, Names}, specs.declared.filed.Marks.Marks, specs.declared.filed.Filed.Filed, specs.Entries.{Entry, below, from, filed_at, first_of, last_of, AreAbove, AreRising}, proofs.Orders.{cut_none, cut_whole, last_cons}, specs.Marks.{has_mark, mark_at}}
-use Rattle.event_chain.{specs.Flat.{EventPlace, place_of}, specs.Edits.{put_if, out, IsLiveLess, IsLiveMore, IsLiveSame, IsNotLive}, specs.Placed.{carriers_of, index, marked_places, marked_index, passes, place_in, placed}, proofs.Decided.not_so, proofs.Places.{found_at, put_is, out_is, not_less}}
+use Rattle.key_index.{specs.declared.filed.Mark.Mark, specs.declared.filed.Mark.TheVariants.{Live, Imports, Exports, Names}, specs.declared.filed.Marks.Marks, specs.declared.filed.Filed.Filed, specs.Entries.{Entry, below, from, filed_at, first_of, last_of, AreAbove, AreRising}, proofs.Orders.{cut_none, cut_whole, rising_parts}, specs.Marks.{has_mark, mark_at, marked}}
+use Rattle.event_chain.{specs.Flat.{EventPlace, place_of}, specs.Edits.{put_if, out, IsLiveLess, IsLiveMore, IsLiveSame, IsNotLive}, specs.Placed.{Index, carriers_of, index, marked_places, marked_index, passes, place_in, placed, Placed}, proofs.Decided.not_so, proofs.Places.{found_at, put_is, out_is, not_less}}
 
 -- No entries have no places.
 marked_nil : (o : Option Mark) → marked_places o [] ≡ []
@@ -38,34 +38,39 @@ marked_below o r (e ∷ es) h = grind (arith, common_steps, marked_on, marked_ni
 
 -- And what is left.
 pub marked_from : (o : Option Mark) (r : ℕ) (es : List (Entry ℕ)) → AreRising es → marked_places o (from r es) ≡ from r (marked_places o es)
-marked_from o r [] h = marked_nil o ∙ sym (ap (from r) (marked_nil o))
-marked_from o r (e ∷ es) h =
-    elim (nat_lt e.0 r) as (λ b. nat_lt e.0 r ≡ b → marked_places o (cond b (from r es) (e ∷ es)) ≡ from r (marked_places o (e ∷ es))) [
-      | true ↦ λ y.
-          marked_from o r es h.1
-          ∙ sym (ap (from r) (marked_on o e es) ∙ elim (passes o e.1.marks) as (λ p. from r (cond p (place_in e ∷ marked_places o es) (marked_places o es)) ≡ from r (marked_places o es)) [
-            | true ↦ ap (λ b. cond b (from r (marked_places o es)) (place_in e ∷ marked_places o es)) y
-            | false ↦ refl
-          ])
-      | false ↦ λ never.
-          marked_on o e es
-          ∙ elim (passes o e.1.marks) as (λ p. cond p (place_in e ∷ marked_places o es) (marked_places o es) ≡ from r (cond p (place_in e ∷ marked_places o es) (marked_places o es))) [
-            | true ↦ sym (ap (λ b. cond b (from r (marked_places o es)) (place_in e ∷ marked_places o es)) never)
-            | false ↦ sym ((cut_none r e.0 (marked_places o es) (marked_above o e.0 es h.0) (not_less e.0 r never)).1)
-          ]
-          ∙ sym (ap (from r) (marked_on o e es))
-    ] refl
+marked_from o r es h = let ms = marked_places o es in append_cancel_left (below r ms) (marked_places o (from r es)) (from r ms)
+    (ap (λ xs. xs ++ marked_places o (from r es)) (sym (marked_below o r es h)) ∙ sym (marked_both o (below r es) (from r es)) ∙ ap (marked_places o) (cut_whole r es) ∙ sym (cut_whole r ms))
 
--- The first place is that of the first entry.
-pub first_place_in : (xs : List (Entry ℕ)) → first_of (map place_in xs) ≡ option_map place_in (first_of xs)
-first_place_in [] = refl
-first_place_in (x ∷ xs) = refl
+-- The entries that have a mark, or all.
+abbrev pub marked_or_all : Option Mark → List (Entry ℕ) → List (Entry ℕ)
+marked_or_all None es = es
+marked_or_all (Some m) es = marked m es
 
--- The last place is that of the last entry.
-pub last_place_in : (xs : List (Entry ℕ)) → last_of (map place_in xs) ≡ option_map place_in (last_of xs)
-last_place_in [] = refl
-last_place_in (x ∷ []) = refl
-last_place_in (x ∷ y ∷ xs) = last_cons (place_in x) (place_in y) (map place_in xs) ∙ last_place_in (y ∷ xs) ∙ sym (ap (option_map place_in) (last_cons x y xs))
+-- The place of an entry at a number.
+place_at : (o : Option Mark) (es : List (Entry ℕ)) (n : ℕ) → option_map place_in (slice_get (marked_or_all o es) n) ≡ slice_get (marked_places o es) n
+place_at None es n = sym (slice_get-map place_in es n)
+place_at (Some m) es n = sym (slice_get-map place_in (marked m es) n)
+
+-- There are as many places as entries.
+length_places : (o : Option Mark) (es : List (Entry ℕ)) → length (marked_places o es) ≡ length (marked_or_all o es)
+length_places None es = length-map es place_in
+length_places (Some m) es = length-map (marked m es) place_in
+
+-- What callers see of places with a mark, or of all.
+module _ (i : keyed.Index ℕ) {o k : Option Mark} {x : Index} (is : o ≡ k) (view : marked_index o i ≡ x) (up : AreRising i.entries) where
+  pub rises_read : AreRising x.entries
+  rises_read = subst (λ (y : Index). AreRising y.entries) view (marked_rising o i.entries up)
+
+  -- The first place from a rank on.
+  pub first_read : (r : ℕ) → option_map place_in (first_of (marked_or_all k (from r i.entries))) ≡ first_of (from r x.entries)
+  first_read r = place_at k (from r i.entries) 0 ∙ ap first_of (marked_from k r i.entries up)
+      ∙ ap (λ q. first_of (from r (marked_places q i.entries))) (sym is) ∙ ap (λ (y : Index). first_of (from r y.entries)) view
+
+  -- The last place in front of a rank.
+  pub last_read : (r : ℕ) → option_map place_in (last_of (marked_or_all k (below r i.entries))) ≡ last_of (below r x.entries)
+  last_read r = let es = below r i.entries in
+      place_at k es (length (marked_or_all k es) - 1) ∙ ap (λ n. slice_get (marked_places k es) (n - 1)) (sym (length_places k es))
+      ∙ ap last_of (marked_below k r i.entries up) ∙ ap (λ q. last_of (below r (marked_places q i.entries))) (sym is) ∙ ap (λ (y : Index). last_of (below r y.entries)) view
 
 -- Where no entry has the rank, no place with a mark has.
 pub marked_absent : (o : Option Mark) (r : ℕ) (es : List (Entry ℕ)) → place_of r (marked_places None es) ≡ None → place_of r (marked_places o es) ≡ None
@@ -115,8 +120,7 @@ from_parts r f (e ∷ l) h =
 
 -- What is left from a rank on rises.
 from_rising : (r : ℕ) (es : List (Entry ℕ)) → AreRising es → AreRising (from r es)
-from_rising r [] h = tt
-from_rising r (e ∷ es) h = elim (nat_lt e.0 r) as (λ b. AreRising (cond b (from r es) (e ∷ es))) [ true ↦ from_rising r es h.1 | false ↦ h ]
+from_rising r es h = (rising_parts (below r es) (from r es) (subst AreRising (sym (cut_whole r es)) h)).1
 
 -- Nothing is left out where the rank is absent.
 pub out_absent : (r : ℕ) (xs : List EventPlace) → place_of r xs ≡ None → out r xs ≡ xs
@@ -173,70 +177,86 @@ module _ (o : Option Mark) (r : ℕ) (f : Filed ℕ) (es : List (Entry ℕ)) (h 
 abbrev pub live_marks : ByDirection Bool → Bool → Marks
 live_marks carries names_evse = record { live = true; imports = carries.import; exports = carries.export; names = names_evse }
 
+-- No marks.
+abbrev pub unmarked : Marks
+unmarked = record { live = false; imports = false; exports = false; names = false }
+
 -- What a change of one index does to its places by each mark.
-module _ (old new : keyed.Index ℕ) (key : ℕ) (up : AreRising old.entries) (room : new.capacity ≡ old.capacity) where
+module _ (old new : keyed.Index ℕ) {p : Placed} (view : placed old ≡ p) (key : ℕ) (up : AreRising old.entries) (room : new.capacity ≡ old.capacity) where
   marked_is : (o : Option Mark) (xs : List EventPlace) → marked_places o new.entries ≡ xs → marked_index o new ≡ index xs old.capacity
   marked_is o xs is = λ i. index (is i) (room i)
 
   more : (slot : ℕ) (carries : ByDirection Bool) (names_evse : Bool)
       → ((m : Mark) → marked_index (Some m) new ≡ index (put_if (has_mark m (live_marks carries names_evse)) key slot (marked_places (Some m) old.entries)) old.capacity)
-      → IsLiveMore key slot carries names_evse (placed old) (placed new)
-  more slot carries names_evse each = grind (arith, common_steps, each_way)
+      → IsLiveMore key slot carries names_evse p (placed new)
+  more slot carries names_evse each =
+      let all : IsLiveMore key slot carries names_evse (placed old) (placed new) = grind (arith, common_steps, each_way) in subst (λ x. IsLiveMore key slot carries names_evse x (placed new)) view all
 
   -- A live event is put in.
-  module _ (slot : ℕ) (carries : ByDirection Bool) (names_evse : Bool) (none : place_of key (marked_places None old.entries) ≡ None)
+  module _ (slot : ℕ) (carries : ByDirection Bool) (names_evse : Bool) (none : place_of key p.stored.entries ≡ None)
       (is : new.entries ≡ below key old.entries ++ (key, record { value = slot; marks = live_marks carries names_evse }) ∷ from key old.entries) where
-    put_in : (o : Option Mark) → marked_index o new ≡ index (put_if (passes o (live_marks carries names_evse)) key slot (marked_places o old.entries)) old.capacity
-    put_in o = marked_is o _ (ap (marked_places o) is ∙ marked_put o key (record { value = slot; marks = live_marks carries names_evse }) old.entries up none)
+    pub put_in : (o : Option Mark) → marked_index o new ≡ index (put_if (passes o (live_marks carries names_evse)) key slot (marked_places o old.entries)) old.capacity
+    put_in o = marked_is o _ (ap (marked_places o) is
+        ∙ marked_put o key (record { value = slot; marks = live_marks carries names_evse }) old.entries up (ap (λ (x : Placed). place_of key x.stored.entries) view ∙ none))
 
-    pub stored_more : marked_index None new ≡ index (put nat_cmp key slot (marked_places None old.entries)) old.capacity
-    stored_more = put_in None
+    pub stored_more : marked_index None new ≡ index (put nat_cmp key slot p.stored.entries) p.stored.capacity
+    stored_more = put_in None ∙ ap (λ (x : Placed). index (put nat_cmp key slot x.stored.entries) x.stored.capacity) view
 
-    pub lives_more : IsLiveMore key slot carries names_evse (placed old) (placed new)
+    pub lives_more : IsLiveMore key slot carries names_evse p (placed new)
     lives_more = more slot carries names_evse (λ m. put_in (Some m))
 
   -- The marks of an event change.
-  module _ (slot : ℕ) (at : place_of key (marked_places None old.entries) ≡ Some slot) (marks : Marks) (is : new.entries ≡ below key old.entries ++ mark_at marks 0 (from key old.entries)) where
+  module _ (slot : ℕ) (at : place_of key p.stored.entries ≡ Some slot) (marks : Marks) (is : new.entries ≡ below key old.entries ++ mark_at marks 0 (from key old.entries)) where
     abbrev f : (f : Filed ℕ) × ((filed_at key (from key old.entries) ≡ Some f) × (f.value ≡ slot))
-    f = filed_there key slot old.entries up at
+    f = filed_there key slot old.entries up (ap (λ (x : Placed). place_of key x.stored.entries) view ∙ at)
 
-    pub stored_stays : marked_index None new ≡ marked_index None old
-    stored_stays = marked_is None _ (ap (marked_places None) is ∙ marked_stays None key f.0 old.entries up f.1.0 marks refl refl)
+    pub stored_stays : marked_index None new ≡ p.stored
+    stored_stays = marked_is None _ (ap (marked_places None) is ∙ marked_stays None key f.0 old.entries up f.1.0 marks refl refl) ∙ ap (λ (x : Placed). x.stored) view
 
-    pub lives_less : marks ≡ record { live = false; imports = false; exports = false; names = false } → IsLiveLess key (placed old) (placed new)
-    lives_less none =
-        let each : (m : Mark) → marked_index (Some m) new ≡ index (out key (marked_places (Some m) old.entries)) old.capacity =
-        λ m. marked_is (Some m) _ (ap (marked_places (Some m)) is ∙ marked_void (Some m) key f.0 old.entries up f.1.0 marks (ap (has_mark m) none ∙ unmarked m)) in
-        record {
-          live = each Live;
-          carriers = each_way (λ d. carriers_of (placed new) d ≡ index (out key (carriers_of (placed old) d).entries) (carriers_of (placed old) d).capacity) (each Imports) (each Exports);
-          naming = each Names;
-        } where
-          unmarked : (m : Mark) → has_mark m (record { live = false; imports = false; exports = false; names = false }) ≡ false
-          unmarked m = grind (arith, common_steps)
+    module _ (none : marks ≡ unmarked) where
+      pub gone_from : (m : Mark) → marked_index (Some m) new ≡ index (out key (marked_places (Some m) old.entries)) old.capacity
+      gone_from m = marked_is (Some m) _ (ap (marked_places (Some m)) is ∙ marked_void (Some m) key f.0 old.entries up f.1.0 marks (ap (has_mark m) none ∙ none_has m)) where
+        none_has : (k : Mark) → has_mark k unmarked ≡ false
+        none_has k = grind (arith, common_steps)
 
-    pub lives_again : (carries : ByDirection Bool) (names_evse : Bool) → marks ≡ live_marks carries names_evse
-        → IsNotLive key (placed old) → IsLiveMore key slot carries names_evse (placed old) (placed new)
-    lives_again carries names_evse marks_are none =
-        more slot carries names_evse (λ m. marked_is (Some m) _ (ap (marked_places (Some m)) is ∙ marked_enter (Some m) key f.0 old.entries up f.1.0 marks (absent m)
-        ∙ ap (λ s. put_if (has_mark m marks) key s (marked_places (Some m) old.entries)) f.1.1 ∙ ap (λ b. put_if (has_mark m b) key slot (marked_places (Some m) old.entries)) marks_are)) where
-          absent : (m : Mark) → place_of key (marked_places (Some m) old.entries) ≡ None
-          absent Live = none.live
-          absent Imports = none.carriers Import
-          absent Exports = none.carriers Export
-          absent Names = none.naming
+      pub lives_less : IsLiveLess key p (placed new)
+      lives_less = subst (λ x. IsLiveLess key x (placed new)) view (record {
+        live = gone_from Live;
+        carriers = each_way (λ d. carriers_of (placed new) d ≡ index (out key (carriers_of (placed old) d).entries) (carriers_of (placed old) d).capacity) (gone_from Imports) (gone_from Exports);
+        naming = gone_from Names;
+      })
+
+    module _ (carries : ByDirection Bool) (names_evse : Bool) (marks_are : marks ≡ live_marks carries names_evse) (none : IsNotLive key p) where
+      absent : (m : Mark) → place_of key (marked_places (Some m) old.entries) ≡ None
+      absent m = let dark = subst (IsNotLive key) (sym view) none in elim m as (λ k. place_of key (marked_places (Some k) old.entries) ≡ None) [
+        | Live ↦ dark.live
+        | Imports ↦ dark.carriers Import
+        | Exports ↦ dark.carriers Export
+        | Names ↦ dark.naming
+      ]
+
+      pub again_in : (m : Mark) → marked_index (Some m) new ≡ index (put_if (has_mark m (live_marks carries names_evse)) key slot (marked_places (Some m) old.entries)) old.capacity
+      again_in m = marked_is (Some m) _ (ap (marked_places (Some m)) is ∙ marked_enter (Some m) key f.0 old.entries up f.1.0 marks (absent m)
+          ∙ ap (λ s. put_if (has_mark m marks) key s (marked_places (Some m) old.entries)) f.1.1 ∙ ap (λ b. put_if (has_mark m b) key slot (marked_places (Some m) old.entries)) marks_are)
+
+      pub lives_again : IsLiveMore key slot carries names_evse p (placed new)
+      lives_again = more slot carries names_evse again_in
 
   -- An event that is not live is taken out.
-  module _ (f : Filed ℕ) (there : filed_at key (from key old.entries) ≡ Some f) (is : new.entries ≡ below key old.entries ++ drop 1 (from key old.entries)) where
-    pub stored_less : marked_index None new ≡ index (out key (marked_places None old.entries)) old.capacity
-    stored_less = marked_is None _ (ap (marked_places None) is ∙ marked_out None key f old.entries up there)
+  module _ (some : is_some (place_of key p.stored.entries) ≡ true) (is : new.entries ≡ below key old.entries ++ drop 1 (from key old.entries)) where
+    abbrev g : (f : Filed ℕ) × (filed_at key (from key old.entries) ≡ Some f)
+    g = filed_some key old.entries up (ap (λ (x : Placed). is_some (place_of key x.stored.entries)) view ∙ some)
 
-    pub lives_stay : IsNotLive key (placed old) → IsLiveSame (placed old) (placed new)
-    lives_stay none =
-        let each : (m : Mark) → place_of key (marked_places (Some m) old.entries) ≡ None → marked_index (Some m) new ≡ marked_index (Some m) old =
-        λ m absent. marked_is (Some m) _ (ap (marked_places (Some m)) is ∙ marked_out (Some m) key f old.entries up there ∙ out_absent key (marked_places (Some m) old.entries) absent) in
-        record {
-          live = each Live none.live;
-          carriers = each_way (λ d. carriers_of (placed new) d ≡ carriers_of (placed old) d) (each Imports (none.carriers Import)) (each Exports (none.carriers Export));
-          naming = each Names none.naming;
-        }
+    pub stored_less : marked_index None new ≡ index (out key p.stored.entries) p.stored.capacity
+    stored_less = marked_is None _ (ap (marked_places None) is ∙ marked_out None key g.0 old.entries up g.1) ∙ ap (λ (x : Placed). index (out key x.stored.entries) x.stored.capacity) view
+
+    module _ (none : IsNotLive key p) where
+      pub stays_in : (m : Mark) → place_of key (marked_places (Some m) old.entries) ≡ None → marked_index (Some m) new ≡ marked_index (Some m) old
+      stays_in m absent = marked_is (Some m) _ (ap (marked_places (Some m)) is ∙ marked_out (Some m) key g.0 old.entries up g.1 ∙ out_absent key (marked_places (Some m) old.entries) absent)
+
+      pub lives_stay : IsLiveSame p (placed new)
+      lives_stay = let dark = subst (IsNotLive key) (sym view) none in subst (λ x. IsLiveSame x (placed new)) view (record {
+        live = stays_in Live dark.live;
+        carriers = each_way (λ d. carriers_of (placed new) d ≡ carriers_of (placed old) d) (stays_in Imports (dark.carriers Import)) (stays_in Exports (dark.carriers Export));
+        naming = stays_in Names dark.naming;
+      })

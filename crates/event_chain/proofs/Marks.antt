@@ -1,10 +1,10 @@
 -- What a mark or a removal may rely on, and what a mark leaves.
-use Rattle.std.{proofs.lemmas.Grind.common_steps, proofs.Common.{◌≡◌, ℕ, zero, suc, ◌+◌, ◌<◌, ◌≤◌, ◌^◌, nat_lt, Bool, true, false, not, cond, ◌&&◌, List, [], ◌∷◌, Option, Some, None, is_some, length, set, refl, sym, ap, ◌∙◌, subst, arith, inl}, specs.FinMap.find}
+use Rattle.std.{proofs.lemmas.Grind.common_steps, proofs.Common.{◌≡◌, ℕ, zero, suc, ◌+◌, ◌<◌, ◌≤◌, ◌^◌, nat_lt, Bool, true, false, not, cond, ◌&&◌, List, [], ◌∷◌, Option, Some, None, is_some, length, set, refl, sym, ap, ◌∙◌, arith, inl}, specs.FinMap.find}
 use Rattle.std.specs.FinMap as finite
 use Rattle.ledger_model.{specs.Deltas.first_reading, specs.Event.toward, specs.declared.reading.Direction.Direction, specs.Key.{KeyName, key_cmp}, specs.Limits.Bounds, specs.Content.{Entry, Stored}, specs.Step.{marked, marked_at}}
 use Rattle.slot_arena.specs.Arena.{value_at}
 use Rattle.key_index.specs.Key.{rank}
-use Rattle.event_chain.{specs.Placed.Index, specs.declared.row.TableRow.TableRow, specs.Table.{Table, TxRow, AreSlotted, AreRising, AreApart, row_of, with_row}, specs.Flat.{EventPlace, place_of, stored_in, event_at, flat}, specs.declared.look_ups.EventLocation.EventLocation, specs.Edits.{put_if, out, place_in, place_at, IsLocation}, specs.Kept.{IsSub, chosen, is_live, is_carrier, is_naming, is_end, live_one, end_one, AreIndexed, IsChains, IsNamed, events_of}, proofs.Facts.{seal, all_rising, get_place, counts_few, places_few}, proofs.Named.named_after, proofs.Places.place_at_row, proofs.Sums.{at_key, sum_without}, proofs.Ops.{mark_in, mark_out, mark_chains, mark_all, live_mine, end_mine}, proofs.Effects.map_put, specs.Chains.Chained, specs.declared.answers.Found.Found, specs.declared.answers.Found.TheVariants.{Live, Voided}, specs.Room.found_of}
+use Rattle.event_chain.{specs.Placed.{Index, Placed, carriers_of}, specs.declared.row.TableRow.TableRow, specs.Table.{Table, AreSlotted, row_of, with_row}, specs.Flat.{EventPlace, place_of, stored_in, event_at, flat}, specs.declared.look_ups.EventLocation.EventLocation, specs.Edits.{place_in, place_at, IsLocation, IsNotLive}, specs.Kept.{IsSub, chosen, is_live, is_carrier, is_naming, live_one, end_one, IsChains, events_of}, proofs.Changes.change_same, proofs.Facts.{all_rising, get_place, counts_few, places_few}, proofs.Figures.{live_mine, end_mine}, proofs.Looks.{kept_at, live_in, end_in, IsPlace, turned_named}, proofs.Named.named_after, proofs.Places.place_at_row, proofs.Sums.{at_key, sum_without}, proofs.Ops.{AreMoved, IsDone, events_put}, specs.Chains.Chained, specs.declared.answers.Found.Found, specs.declared.answers.Found.TheVariants.{Live, Voided}, specs.Room.found_of}
 use Rattle.event_store.specs.Slots.{Held, Slots, voided_as, voided_at}
 
 -- What is there is in range.
@@ -29,15 +29,14 @@ known_voided s h = grind (arith, common_steps)
 some_place : (slots : List (Option Held)) (o : Option ℕ) (f : Found) → found_of (event_at slots o) ≡ Some f → is_some o ≡ true
 some_place slots o f h = grind (arith, common_steps)
 
-module _ {limits : Bounds} {table : Table} {store : Slots} {stored live : Index} {carriers : Direction → Index} {naming : Index}
-    (chains : IsChains limits table store stored live carriers naming) (key : KeyName) where
+module _ {limits : Bounds} {table : Table} {store : Slots} (p : Placed) (chains : IsChains limits table store p.stored p.live (carriers_of p) p.naming) (key : KeyName) where
   -- A key that is found has a place.
-  pub is_placed : {seen : Chained} {f : Found} → record { limits = limits; events = events_of table store stored } ≡ seen
-      → found_of (finite.get seen.events key) ≡ Some f → is_some (place_at table.rows stored.entries key) ≡ true
-  is_placed {f = f} view found = some_place store.slots (place_at table.rows stored.entries key) f
+  pub is_placed : {seen : Chained} {f : Found} → record { limits = limits; events = events_of table store p.stored } ≡ seen
+      → found_of (finite.get seen.events key) ≡ Some f → is_some (place_at table.rows p.stored.entries key) ≡ true
+  is_placed {f = f} view found = some_place store.slots (place_at table.rows p.stored.entries key) f
       (ap found_of (sym (get_place chains key)) ∙ ap (λ (x : Chained). found_of (finite.get x.events key)) view ∙ found)
 
-  module _ {location : EventLocation} (at : IsLocation table.rows stored.entries key location) where
+  module _ {location : EventLocation} (at : IsLocation table.rows p.stored.entries key location) where
     -- The event of the place.
     abbrev pub location_event : Stored
     location_event = (chains.keyed.homes location.key location.slot at.slot).stored
@@ -46,36 +45,48 @@ module _ {limits : Bounds} {table : Table} {store : Slots} {stored live : Index}
     pub location_here : value_at store.slots location.slot ≡ Some (location.key, location_event)
     location_here = (chains.keyed.homes location.key location.slot at.slot).held_is
 
-    -- The slot is one.
-    pub location_within : location.slot < length store.slots
-    location_within = there_within store.slots location.slot (location.key, location_event) location_here
+    -- Its place and its slot.
+    pub location_place : IsPlace table.rows p.stored.entries store.slots key location.row location.key location.slot (Some location_event)
+    location_place = record {
+      keyed = chains.keyed;
+      number = at.number;
+      rank_is = at.key_is;
+      at = at.slot;
+      here = location_here;
+      within = there_within store.slots location.slot (location.key, location_event) location_here;
+      known = inl at.row;
+    }
 
     -- It is what the map has.
-    location_get : finite.get (events_of table store stored) key ≡ Some location_event
+    location_get : finite.get (events_of table store p.stored) key ≡ Some location_event
     location_get =
-        get_place chains key ∙ ap (event_at store.slots) (place_at_row table.rows stored.entries key location.row at.row at.number ∙ ap (λ r. place_of r stored.entries) (sym at.key_is) ∙ at.slot)
+        get_place chains key ∙ ap (event_at store.slots) (place_at_row table.rows p.stored.entries key location.row at.row at.number ∙ ap (λ r. place_of r p.stored.entries) (sym at.key_is) ∙ at.slot)
         ∙ ap (λ o. Some (stored_in o)) location_here
 
-    -- It is live if it is found so.
-    pub location_was_live : {seen : Chained} → record { limits = limits; events = events_of table store stored } ≡ seen
-        → found_of (finite.get seen.events key) ≡ Some Live → location_event.voided ≡ false
-    location_was_live view found = known_live location_event (ap found_of (sym location_get) ∙ ap (λ (x : Chained). found_of (finite.get x.events key)) view ∙ found)
+    module _ {seen : Chained} (view : record { limits = limits; events = events_of table store p.stored } ≡ seen) where
+      -- It is live if it is found so.
+      pub location_was_live : found_of (finite.get seen.events key) ≡ Some Live → location_event.voided ≡ false
+      location_was_live found = known_live location_event (ap found_of (sym location_get) ∙ ap (λ (x : Chained). found_of (finite.get x.events key)) view ∙ found)
 
-    -- It is voided if it is found so.
-    pub location_was_voided : {seen : Chained} → record { limits = limits; events = events_of table store stored } ≡ seen
-        → found_of (finite.get seen.events key) ≡ Some Voided → location_event.voided ≡ true
-    location_was_voided view found = known_voided location_event (ap found_of (sym location_get) ∙ ap (λ (x : Chained). found_of (finite.get x.events key)) view ∙ found)
+      -- It is voided if it is found so.
+      pub location_was_voided : found_of (finite.get seen.events key) ≡ Some Voided → location_event.voided ≡ true
+      location_was_voided found = known_voided location_event (ap found_of (sym location_get) ∙ ap (λ (x : Chained). found_of (finite.get x.events key)) view ∙ found)
 
     -- The place in a sub-index.
-    pub location_sub : (test : Stored → Bool) (sub : List EventPlace) → IsSub test stored.entries store.slots sub → place_of location.key sub ≡ cond (test location_event) (Some location.slot) None
+    pub location_sub : (test : Stored → Bool) (sub : List EventPlace) → IsSub test p.stored.entries store.slots sub → place_of location.key sub ≡ kept_at test location.slot (Some location_event)
     location_sub test sub is = is.each location.key ∙ ap (chosen test store.slots) at.slot ∙ ap (λ o. cond (test (stored_in o)) (Some location.slot) None) location_here
 
-    -- It is not there where the event does not.
-    pub location_absent : (test : Stored → Bool) (sub : List EventPlace) → IsSub test stored.entries store.slots sub → test location_event ≡ false → place_of location.key sub ≡ None
-    location_absent test sub is never = location_sub test sub is ∙ ap (λ c. cond c (Some location.slot) None) never
+    -- A voided event is in no index of live ones.
+    pub location_dark : location_event.voided ≡ true → IsNotLive location.key p
+    location_dark void = record {
+      live = location_sub is_live p.live.entries chains.indexed.lives ∙ ap (λ v. cond (not v) (Some location.slot) None) void;
+      carriers = λ d. location_sub (is_carrier d) (carriers_of p d).entries (chains.indexed.carry d)
+          ∙ ap (λ v. cond (not v && is_some (first_reading (toward d location_event.event.readings))) (Some location.slot) None) void;
+      naming = location_sub is_naming p.naming.entries chains.indexed.names ∙ ap (λ v. cond (not v && is_some location_event.event.evse) (Some location.slot) None) void;
+    }
 
     abbrev all : List Entry
-    all = flat table.rows stored.entries store.slots
+    all = flat table.rows p.stored.entries store.slots
 
     find_location : find key_cmp key all ≡ Some location_event
     find_location = sym (finite.get-from_sorted key_cmp all key (all_rising chains)) ∙ location_get
@@ -87,125 +98,51 @@ module _ {limits : Bounds} {table : Table} {store : Slots} {stored live : Index}
         (omega (arith, counts.0, few, most), omega (arith, counts.1, few, most))
 
     -- A live event is counted.
-    pub location_live : cond (not location_event.voided) 1 0 ≤ location.row.live
+    pub location_live : live_in (Some location_event) ≤ location.row.live
     location_live =
         let figures = chains.figured key.tx location.row at.row in let f = live_one key.tx in
-        omega (arith, figures.live, sum_without f key all (all_rising chains), ap (at_key f key) find_location, live_mine key location_event)
+        omega (arith, figures.live, sum_without f key all (all_rising chains), ap (at_key f key) find_location, live_mine key (Some location_event))
 
     -- As an end too.
-    pub location_ends : cond (not location_event.voided && is_end location_event.event.kind) 1 0 ≤ location.row.ends
+    pub location_ends : end_in (Some location_event) ≤ location.row.ends
     location_ends =
         let figures = chains.figured key.tx location.row at.row in let f = end_one key.tx in
-        omega (arith, figures.ends, sum_without f key all (all_rising chains), ap (at_key f key) find_location, end_mine key location_event)
+        omega (arith, figures.ends, sum_without f key all (all_rising chains), ap (at_key f key) find_location, end_mine key (Some location_event))
 
     -- What its slot shows.
     pub location_is : (h : Held) → value_at store.slots location.slot ≡ Some h → h.1 ≡ location_event
     location_is h is = let e : h ≡ (location.key, location_event) = same_held (value_at store.slots location.slot) h (location.key, location_event) is location_here in ap (λ (x : Held). x.1) e
 
-    module _ (new : List TxRow) (after : TableRow) (rows : new ≡ with_row key.tx after table.rows)
-        (same : after.slot ≡ location.row.slot) (rising : AreRising new) (apart : AreApart new) (voided : Bool) where
-      abbrev now : Stored
-      now = record { event = location_event.event; voided = voided }
+    -- The event as it is marked.
+    abbrev now : Bool → Stored
+    now voided = record { event = location_event.event; voided = voided }
 
-      abbrev held : List (Option Held)
-      held = set store.slots location.slot (Some (location.key, now))
+    module _ {t : Table} {s : Slots} {q : Placed} {voided : Bool} where
+      -- What a mark does to each part.
+      pub marked_done : (after : TableRow) → t.rows ≡ with_row key.tx after table.rows → t.capacity ≡ table.capacity → AreSlotted t → after.slot ≡ location.row.slot
+          → s.slots ≡ voided_at store.slots location.slot voided → s.readings ≡ store.readings → s.capacity ≡ store.capacity
+          → q.stored ≡ p.stored → AreMoved location.key location.slot (Some (now voided)) p q
+          → after.live + live_in (Some location_event) ≡ location.row.live + live_in (Some (now voided)) → after.ends + end_in (Some location_event) ≡ location.row.ends + end_in (Some (now voided))
+          → IsDone table t store s p q key location.row location.key location.slot (Some location_event) (Some (now voided))
+      marked_done after rows transactions slotted same slots readings room stored moved live ends =
+          let places = change_same location.key (Some location.slot) p.stored q.stored stored at.slot in record {
+            place = location_place;
+            turned = turned_named table.rows t.rows p.stored.entries q.stored.entries key.tx location.row after location.key location.slot (Some location_event) (Some (now voided))
+                (named_after table.rows table.rows t.rows key.tx location.row after (inl (at.row, refl)) rows same) slotted.rising slotted.apart
+                places (omega (arith, at.key_is, at.number)) live ends;
+            places = places;
+            slots = slots ∙ ap (λ o. set store.slots location.slot (voided_as voided o)) location_here;
+            moved = moved;
+            transactions = transactions;
+            readings = ap (λ n. n + length location_event.event.readings) readings;
+            readings_room = room;
+            stored_room = ap (λ (x : Index). x.capacity) stored;
+          }
 
-      named_now : IsNamed table.rows new key.tx location.row after
-      named_now = named_after table.rows table.rows new key.tx location.row after (inl (at.row, refl)) rows same
-
-      -- An index that takes the place.
-      location_in : (test : Stored → Bool) (sub is' : List EventPlace) (b : Bool) → is' ≡ put_if b location.key location.slot sub
-          → b ≡ test now → test location_event ≡ false → IsSub test stored.entries store.slots sub → IsSub test stored.entries held is'
-      location_in test sub is' b is b_is never was = subst (IsSub test stored.entries held) (sym is)
-          (mark_in limits table.rows new stored.entries live.entries (λ d. (carriers d).entries) naming.entries store.slots key location.row
-          after location.key location.slot table.capacity store.readings store.capacity chains.keyed chains.indexed chains.figured
-          chains.counted named_now at.number at.key_is rising apart
-          location_event now location_here location_within at.slot test sub b b_is never was)
-
-      -- An index that gives the place up.
-      location_out : (test : Stored → Bool) (sub is' : List EventPlace) → is' ≡ out location.key sub → test now ≡ false → IsSub test stored.entries store.slots sub → IsSub test stored.entries held is'
-      location_out test sub is' is never was = subst (IsSub test stored.entries held) (sym is)
-          (mark_out limits table.rows new stored.entries live.entries (λ d. (carriers d).entries) naming.entries store.slots key
-          location.row after location.key location.slot table.capacity store.readings store.capacity chains.keyed chains.indexed
-          chains.figured chains.counted named_now at.number at.key_is rising apart
-          location_event now location_here location_within at.slot test sub never was)
-
-      -- The indexes of an event that is live again.
-      pub in_indexes : (l : List EventPlace) (c : Direction → List EventPlace) (n : List EventPlace) (carries : Direction → Bool) (names_evse : Bool)
-          → voided ≡ false → location_event.voided ≡ true → l ≡ put_if true location.key location.slot live.entries
-          → ((d : Direction) → c d ≡ put_if (carries d) location.key location.slot (carriers d).entries)
-          → n ≡ put_if names_evse location.key location.slot naming.entries
-          → ((d : Direction) → carries d ≡ is_some (first_reading (toward d location_event.event.readings))) → names_evse ≡ is_some location_event.event.evse → AreIndexed stored.entries held l c n
-      in_indexes l c n carries names_evse no_more was l_is c_is n_is carries_is names_is = record {
-        lives = location_in is_live live.entries l true l_is (sym (ap not no_more)) (ap not was) chains.indexed.lives;
-        carry = λ d. location_in (is_carrier d) (carriers d).entries (c d) (carries d) (c_is d)
-            (carries_is d ∙ sym (ap (λ v. not v && is_some (first_reading (toward d location_event.event.readings))) no_more))
-            (ap (λ v. not v && is_some (first_reading (toward d location_event.event.readings))) was) (chains.indexed.carry d);
-        names = location_in is_naming naming.entries n names_evse n_is
-            (names_is ∙ sym (ap (λ v. not v && is_some location_event.event.evse) no_more))
-            (ap (λ v. not v && is_some location_event.event.evse) was) chains.indexed.names;
-      }
-
-      -- The indexes of an event that was voided.
-      pub out_indexes : (l : List EventPlace) (c : Direction → List EventPlace) (n : List EventPlace) → voided ≡ true
-          → l ≡ out location.key live.entries → ((d : Direction) → c d ≡ out location.key (carriers d).entries)
-          → n ≡ out location.key naming.entries → AreIndexed stored.entries held l c n
-      out_indexes l c n now_void l_is c_is n_is = record {
-        lives = location_out is_live live.entries l l_is (ap not now_void) chains.indexed.lives;
-        carry = λ d. location_out (is_carrier d) (carriers d).entries (c d) (c_is d)
-            (ap (λ v. not v && is_some (first_reading (toward d location_event.event.readings))) now_void) (chains.indexed.carry d);
-        names = location_out is_naming naming.entries n n_is (ap (λ v. not v && is_some location_event.event.evse) now_void) chains.indexed.names;
-      }
-
-    -- What a mark did to each part.
-    pub record Marked (t : Table) (s : Slots) (l : Index) (c : Direction → Index) (n : Index) (after : TableRow) (voided : Bool) : Type 0 where
-      pub rows : t.rows ≡ with_row key.tx after table.rows
-      pub transactions : t.capacity ≡ table.capacity
-      pub slotted : AreSlotted t
-      pub slots : s.slots ≡ voided_at store.slots location.slot voided
-      pub readings : s.readings ≡ store.readings
-      pub room : s.capacity ≡ store.capacity
-      pub indexes : AreIndexed stored.entries (set store.slots location.slot (Some (location.key, record { event = location_event.event; voided = voided }))) l.entries (λ d. (c d).entries) n.entries
-      pub live_cap : l.capacity ≡ live.capacity
-      pub carriers_cap : (d : Direction) → (c d).capacity ≡ (carriers d).capacity
-      pub naming_cap : n.capacity ≡ naming.capacity
-      pub same : after.slot ≡ location.row.slot
-      pub lives : after.live + cond (not location_event.voided) 1 0 ≡ location.row.live + cond (not voided) 1 0
-      pub ends : after.ends + cond (not location_event.voided && is_end location_event.event.kind) 1 0 ≡ location.row.ends + cond (not voided && is_end location_event.event.kind) 1 0
-
-    module _ {t : Table} {s : Slots} {l : Index} {c : Direction → Index} {n : Index} {after : TableRow} {voided : Bool} (did : Marked t s l c n after voided) where
-      abbrev st : Stored
-      st = record { event = location_event.event; voided = voided }
-
-      named : IsNamed table.rows t.rows key.tx location.row after
-      named = named_after table.rows table.rows t.rows key.tx location.row after (inl (at.row, refl)) did.rows did.same
-
-      slots_are : s.slots ≡ set store.slots location.slot (Some (location.key, st))
-      slots_are = did.slots ∙ ap (λ o. set store.slots location.slot (voided_as voided o)) location_here
-
-      -- Chains are kept.
-      pub marked_chains : IsChains limits t s stored l c n
-      marked_chains = let r = chains.roomy in
-          seal limits t s stored l c n t.rows table.capacity (set store.slots location.slot (Some (location.key, st))) store.readings
-          store.capacity stored.entries l.entries (λ d. (c d).entries) n.entries limits.events
-          refl did.transactions slots_are did.readings did.room refl refl (λ d. refl) refl r.for_stored (did.live_cap ∙ r.for_live)
-          (λ d. did.carriers_cap d ∙ r.for_carriers d) (did.naming_cap ∙ r.for_naming)
-          (mark_chains limits table.rows t.rows stored.entries live.entries (λ d. (carriers d).entries) naming.entries store.slots key
-          location.row after location.key location.slot table.capacity store.readings store.capacity chains.keyed chains.indexed
-          chains.figured chains.counted named at.number at.key_is did.slotted.rising did.slotted.apart
-          location_event st location_here location_within at.slot l.entries (λ d. (c d).entries) n.entries did.indexes refl did.lives
-          did.ends)
-
-      -- The event was marked.
-      pub marked_events : events_of t s stored ≡ marked (events_of table store stored) key voided
-      marked_events =
-          (λ i. finite.from_sorted {R = key_cmp} (flat t.rows stored.entries (slots_are i)))
-          ∙ map_put all (flat t.rows stored.entries (set store.slots location.slot (Some (location.key, st)))) key st (all_rising chains)
-          (mark_all limits table.rows t.rows stored.entries live.entries (λ d. (carriers d).entries) naming.entries store.slots key
-          location.row after location.key location.slot table.capacity store.readings store.capacity chains.keyed chains.indexed
-          chains.figured chains.counted named at.number at.key_is did.slotted.rising did.slotted.apart
-          location_event st location_here location_within at.slot)
-          ∙ sym (ap (marked_at (events_of table store stored) key voided) location_get)
+      -- The map then.
+      pub marked_events : IsDone table t store s p q key location.row location.key location.slot (Some location_event) (Some (now voided))
+          → events_of t s q.stored ≡ marked (events_of table store p.stored) key voided
+      marked_events did = events_put chains did (now voided) refl ∙ sym (ap (marked_at (events_of table store p.stored) key voided) location_get)
 
 module _ {limits : Bounds} {table : Table} {store : Slots} {stored live : Index} {carriers : Direction → Index} {naming : Index}
     (chains : IsChains limits table store stored live carriers naming) (key : KeyName) (s0 : ℕ) where

@@ -1,30 +1,21 @@
 -- What holds of each place of an index.
-use Rattle.std.{proofs.lemmas.Grind.common_steps, proofs.Common.{arith, ◌≡◌, ℕ, ◌/◌, ◌^◌, ◌==◌, Bool, true, false, cond, List, [], ◌∷◌, Option, Some, None, is_some, slice_get, refl, sym, ap, ◌∙◌, subst}, specs.List.filter}
+use Rattle.std.{proofs.lemmas.Grind.common_steps, proofs.Common.{arith, ◌≡◌, ℕ, ◌/◌, ◌^◌, ◌==◌, Bool, true, false, cond, List, [], ◌∷◌, Option, Some, None, is_some, slice_get, sym, ap, ◌∙◌, subst}, specs.List.filter, specs.Ordering.nat_cmp}
 use Rattle.slot_arena.specs.Arena.{IsHeld}
 use Rattle.key_index.{specs.Entries.last_of, proofs.Orders.last_cons}
-use Rattle.ledger_model.{specs.Content.Stored, proofs.Callers.{first, second}}
+use Rattle.ledger_model.{specs.Content.Stored, proofs.Callers.second}
 use Rattle.event_store.specs.Slots.{Held}
-use Rattle.event_chain.{specs.declared.row.TableRow.TableRow, specs.Table.TxRow, specs.Flat.{EventPlace, place_of, stored_at}, specs.Kept.{AreRanks, IsSub, IsKeyed, chosen}, specs.Edits.{IsStored, first_under, last_under}, proofs.Decided.{rank_test, not_so}, proofs.Lives.{chosen_place, below_none}}
+use Rattle.event_chain.{specs.declared.row.TableRow.TableRow, specs.Table.TxRow, specs.Flat.{EventPlace, place_of, stored_at, segment}, specs.Kept.{AreRanks, IsSub, IsKeyed, chosen}, specs.Edits.{IsStored, first_under, last_under}, proofs.Changes.{find_first, find_rest}, proofs.Decided.rank_test, proofs.Lives.chosen_place}
 
 -- Each place of the list is so.
 abbrev pub AllPlaces : (EventPlace → Type 0) → List EventPlace → Type 0
 AllPlaces P [] = Unit {0}
 AllPlaces P (p ∷ ps) = P p × AllPlaces P ps
 
--- What is found is not absent.
-pub never : (o : Option ℕ) (s : ℕ) → o ≡ Some s → o ≡ None → ⊥
-never o s a b = cc
-
 -- What holds of each place that is found holds of all.
 pub all_found : (P : EventPlace → Type 0) (ps : List EventPlace) → AreRanks ps → ((p : EventPlace) → place_of p.0 ps ≡ Some p.1 → P p) → AllPlaces P ps
 all_found P [] h each = tt
-all_found P (p ∷ ps) h each = (
-  each p (ap (λ b. cond b (Some p.1) (place_of p.0 ps)) ((rank_test p.0 p.0).1 refl)),
-  all_found P ps (second _ _ h)
-      (λ q is. each q (ap (λ b. cond b (Some p.1) (place_of q.0 ps))
-      (not_so _ (rank_test q.0 p.0) (λ k. never (place_of q.0 ps) q.1 is (ap (λ r. place_of r ps) k ∙ below_none p.0 ps (first _ _ h))))
-      ∙ is)),
-)
+all_found P (p ∷ ps) h each =
+    (each p (find_first nat_cmp rank_test p ps), all_found P ps (second _ _ h) (λ q is. each q (find_rest nat_cmp rank_test p ps h q.0 q.1 is)))
 
 -- What holds of all holds of those that are left.
 pub all_left : (P : EventPlace → Type 0) (f : EventPlace → Bool) (ps : List EventPlace) → AllPlaces P ps → AllPlaces P (filter f ps)
@@ -34,10 +25,6 @@ all_left P f (p ∷ ps) h = elim (f p) as (λ b. AllPlaces P (cond b (p ∷ filt
 -- What was chosen passes the test.
 pub chosen_test : (test : Stored → Bool) (slots : List (Option Held)) (o : Option ℕ) (s : ℕ) → chosen test slots o ≡ Some s → test (stored_at slots s) ≡ true
 chosen_test test slots o s h = grind (arith, common_steps)
-
--- The event of each place passes the index's test.
-pub all_chosen : (test : Stored → Bool) (es sub : List EventPlace) (slots : List (Option Held)) → IsSub test es slots sub → AllPlaces (λ p. test (stored_at slots p.1) ≡ true) sub
-all_chosen test es sub slots is = all_found (λ p. test (stored_at slots p.1) ≡ true) sub is.rising (λ p at. chosen_test test slots (place_of p.0 es) p.1 (sym (is.each p.0) ∙ at))
 
 -- Each place is that of an event.
 pub all_held : (test : Stored → Bool) (rows : List TxRow) (es sub : List EventPlace) (slots : List (Option Held))
@@ -56,12 +43,14 @@ stored_last slots [] h = tt
 stored_last slots (p ∷ []) h = h.0
 stored_last slots (p ∷ q ∷ ps) h = subst (IsStored slots) (sym (last_cons p q ps)) (stored_last slots (q ∷ ps) h.1)
 
--- The first place of a transaction is that of an event.
-pub first_held : (slots : List (Option Held)) (ps : List EventPlace) (o : Option TableRow) → AllPlaces (λ p. IsHeld slots p.1) ps → IsStored slots (first_under ps o)
-first_held slots ps None h = tt
-first_held slots ps (Some row) h = stored_first slots (filter (λ e. e.0 / 2 ^ 31 == row.slot) ps) (all_left (λ p. IsHeld slots p.1) (λ e. e.0 / 2 ^ 31 == row.slot) ps h)
+module _ {test : Stored → Bool} {rows : List TxRow} {es sub : List EventPlace} {slots : List (Option Held)} (o : Option TableRow) (keyed : IsKeyed rows es slots) (is : IsSub test es slots sub) where
+  own_held : (slot : ℕ) → AllPlaces (λ p. IsHeld slots p.1) (segment slot sub)
+  own_held slot = all_left (λ p. IsHeld slots p.1) (λ e. e.0 / 2 ^ 31 == slot) sub (all_held test rows es sub slots keyed is)
 
--- So is the last.
-pub last_held : (slots : List (Option Held)) (ps : List EventPlace) (o : Option TableRow) → AllPlaces (λ p. IsHeld slots p.1) ps → IsStored slots (last_under ps o)
-last_held slots ps None h = tt
-last_held slots ps (Some row) h = stored_last slots (filter (λ e. e.0 / 2 ^ 31 == row.slot) ps) (all_left (λ p. IsHeld slots p.1) (λ e. e.0 / 2 ^ 31 == row.slot) ps h)
+  -- The first place of a transaction is that of an event.
+  pub first_held : IsStored slots (first_under sub o)
+  first_held = elim o as (λ r. IsStored slots (first_under sub r)) [ None ↦ tt | Some row ↦ stored_first slots (segment row.slot sub) (own_held row.slot) ]
+
+  -- So is the last.
+  pub last_held : IsStored slots (last_under sub o)
+  last_held = elim o as (λ r. IsStored slots (last_under sub r)) [ None ↦ tt | Some row ↦ stored_last slots (segment row.slot sub) (own_held row.slot) ]

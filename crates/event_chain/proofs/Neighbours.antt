@@ -4,7 +4,7 @@ use Rattle.slot_arena.specs.Arena.{IsHeld}
 use Rattle.key_index.{specs.Entries.last_of, specs.Key.{rank, slot_back}, proofs.Orders.last_cons}
 use Rattle.ledger_model.{specs.Key.KeyName, specs.declared.reading.Direction.Direction, specs.Event.{MeterReading, toward}, specs.Content.{Entry, Stored}, specs.Deltas.{first_reading, last_reading, own_readings, before_key, behind_key}, proofs.Callers.{own_before_key, own_behind_key}}
 use Rattle.event_store.specs.Slots.{Held}
-use Rattle.event_chain.{specs.declared.row.TableRow.TableRow, specs.Table.{TxRow, row_of}, specs.Flat.{EventPlace, stored_at, entry_of, segment, flat}, specs.Kept.{IsSub, IsKeyed, is_live, is_carrier}, specs.Edits.{places_before, places_behind, IsStored, first_at, last_at}, proofs.Lives.{passing_of, live_of_is, segment_passing, none_passing}, proofs.Members.{AllPlaces, all_left, all_chosen, all_held, stored_first, stored_last}, proofs.Cuts.{map_cut, less_rank, more_rank}}
+use Rattle.event_chain.{specs.declared.row.TableRow.TableRow, specs.Table.{TxRow, row_of}, specs.Flat.{EventPlace, place_of, stored_at, entry_of, segment, flat}, specs.Kept.{IsSub, IsKeyed, is_live, is_carrier}, specs.Edits.{places_before, places_behind, IsStored, first_at, last_at}, proofs.Lives.{passing_of, live_of_is, segment_passing, none_passing}, proofs.Members.{AllPlaces, all_found, all_left, chosen_test, all_held, stored_first, stored_last}, proofs.Cuts.{map_cut, less_rank, more_rank}}
 
 module _ (d : Direction) where
   -- The readings of an entry.
@@ -22,11 +22,6 @@ module _ (d : Direction) where
   -- An event that carries has a reading.
   carries_some : (s : Stored) → is_carrier d s ≡ true → 0 < length (toward d s.event.readings)
   carries_some s is = grind (arith, common_steps, some_there)
-
-  -- The events of all places have readings.
-  all_carry : (slots : List (Option Held)) (ps : List EventPlace) → AllPlaces (λ p. (is_carrier d) (stored_at slots p.1) ≡ true) ps → AllPlaces (HasReading slots) ps
-  all_carry slots [] h = tt
-  all_carry slots (p ∷ ps) h = (carries_some (stored_at slots p.1) h.0, all_carry slots ps h.1)
 
   -- The first reading of two lists is that of the first, where it has one.
   first_front : (xs ys : List MeterReading) → 0 < length xs → first_reading (xs ++ ys) ≡ first_reading xs
@@ -103,25 +98,25 @@ module _ (d : Direction) where
       home : r / 2 ^ 31 ≡ row.slot
       home = ap (λ k. k / 2 ^ 31) is ∙ slot_back row.slot key.seq number
 
-      -- What holds of all places holds of those in front.
-      in_front : (P : EventPlace → Type 0) → AllPlaces P carriers → AllPlaces P (places_before r carriers)
-      in_front P h = all_left P (λ e. nat_lt e.0 r) (segment (r / 2 ^ 31) carriers) (all_left P (λ e. e.0 / 2 ^ 31 == r / 2 ^ 31) carriers h)
-
-      -- And of those behind.
-      at_back : (P : EventPlace → Type 0) → AllPlaces P carriers → AllPlaces P (places_behind r carriers)
-      at_back P h = all_left P (λ e. nat_lt r e.0) (segment (r / 2 ^ 31) carriers) (all_left P (λ e. e.0 / 2 ^ 31 == r / 2 ^ 31) carriers h)
+      -- What holds of all places holds of those of the transaction that a test leaves.
+      on_side : (P : EventPlace → Type 0) (g : ℕ → Bool) → AllPlaces P carriers → AllPlaces P (filter (λ e. g e.0) (segment (r / 2 ^ 31) carriers))
+      on_side P g h = all_left P (λ e. g e.0) (segment (r / 2 ^ 31) carriers) (all_left P (λ e. e.0 / 2 ^ 31 == r / 2 ^ 31) carriers h)
 
       -- All places are those of events with readings.
       carry : AllPlaces (HasReading slots) carriers
-      carry = all_carry slots carriers (all_chosen (is_carrier d) es carriers slots sub)
+      carry = all_found (HasReading slots) carriers sub.rising (λ p at. carries_some (stored_at slots p.1) (chosen_test (is_carrier d) slots (place_of p.0 es) p.1 (sym (sub.each p.0) ∙ at)))
+
+      -- All are those of events.
+      held : AllPlaces (λ p. IsHeld slots p.1) carriers
+      held = all_held (is_carrier d) rows es carriers slots keyed sub
 
       -- The last place in front of the key is that of an event.
       pub before_stored : IsStored slots (last_of (places_before r carriers))
-      before_stored = stored_last slots (places_before r carriers) (in_front (λ p. IsHeld slots p.1) (all_held (is_carrier d) rows es carriers slots keyed sub))
+      before_stored = stored_last slots (places_before r carriers) (on_side (λ p. IsHeld slots p.1) (λ x. nat_lt x r) held)
 
       -- The first place behind it is.
       pub behind_stored : IsStored slots (slice_get (places_behind r carriers) 0)
-      behind_stored = stored_first slots (places_behind r carriers) (at_back (λ p. IsHeld slots p.1) (all_held (is_carrier d) rows es carriers slots keyed sub))
+      behind_stored = stored_first slots (places_behind r carriers) (on_side (λ p. IsHeld slots p.1) (λ x. nat_lt r x) held)
 
       -- Events cut by their numbers, by the places cut at the key's rank.
       cut : (f g : ℕ → Bool) → ((x : ℕ) → x / 2 ^ 31 ≡ row.slot → f (x % 2 ^ 31) ≡ g x)
@@ -135,10 +130,10 @@ module _ (d : Direction) where
       pub before_is : last_reading (own_readings d key.tx (before_key key all)) ≡ last_at slots d (last_of (places_before r carriers))
       before_is =
           ap last_reading (own_before ∙ cut (λ n. nat_lt n key.seq) (λ x. nat_lt x r) (λ x at. less_rank row.slot key.seq x at ∙ ap (λ k. nat_lt x k) (sym is)))
-          ∙ last_flat key.tx slots (places_before r carriers) (in_front (HasReading slots) carry)
+          ∙ last_flat key.tx slots (places_before r carriers) (on_side (HasReading slots) (λ x. nat_lt x r) carry)
 
       -- The first reading behind it.
       pub behind_is : first_reading (own_readings d key.tx (behind_key key all)) ≡ first_at slots d (slice_get (places_behind r carriers) 0)
       behind_is =
           ap first_reading (own_behind ∙ cut (λ n. nat_lt key.seq n) (λ x. nat_lt r x) (λ x at. more_rank row.slot key.seq x at ∙ ap (λ k. nat_lt k x) (sym is)))
-          ∙ first_flat key.tx slots (places_behind r carriers) (at_back (HasReading slots) carry)
+          ∙ first_flat key.tx slots (places_behind r carriers) (on_side (HasReading slots) (λ x. nat_lt r x) carry)

@@ -1,8 +1,8 @@
 -- An index with a place put in or taken out.
 use Rattle.std.{proofs.lemmas.Grind.common_steps, proofs.Common.{◌≡◌, ℕ, ◌+◌, ◌<◌, ◌≤◌, ◌/◌, ◌^◌, nat_lt, ◌==◌, true, false, not, cond, T, List, [], ◌∷◌, ◌++◌, Some, None, is_some, drop, slice_get, refl, sym, ap, ◌∙◌, subst, arith, inl, inr}, proofs.lemmas.Bool.{cases_lt, cases_eq}, proofs.lemmas.Bool.Decides.{Decides-ltb, Decides-eqb}, specs.List.filter, specs.Ordering.{is_eq, is_lt, eq_by_cmp, nat_cmp}, specs.declared.cmp.Ordering.TheVariants.Greater, specs.FinMap.put, specs.FinMap.Entries.{by_order, below_all}}
-use Rattle.key_index.{specs.Entries.{below, from, filed_at, first_of, last_of, AreAbove, AreRising, AreBelow}, specs.Key.rank, proofs.Orders.{above_less, last_cons}}
+use Rattle.key_index.{specs.Entries.{below, from, filed_at, first_of, last_of, AreAbove, AreRising, AreBelow}, specs.Key.rank, proofs.Orders.{above_less, cut_whole, last_cons, rising_parts}}
 use Rattle.ledger_model.{proofs.Rising.both, specs.Key.KeyName}
-use Rattle.event_chain.{specs.Flat.{EventPlace, place_of, segment}, specs.declared.row.TableRow.TableRow, specs.Table.{TxRow, row_of}, specs.Kept.AreRanks, specs.Edits.{place_in, place_at, at_home}, proofs.Decided.{rank_test, not_so, denied}, proofs.Flats.nat_less}
+use Rattle.event_chain.{specs.Flat.{EventPlace, place_of, segment}, specs.declared.row.TableRow.TableRow, specs.Table.{TxRow, row_of}, specs.Kept.AreRanks, specs.Edits.{place_in, place_at, at_home}, proofs.Changes.find_none, proofs.Decided.{rank_test, not_so, denied}, proofs.Flats.nat_less}
 
 -- Greater ranks are behind.
 above_below : (r : ℕ) (es : List EventPlace) → AreAbove r es → T (below_all nat_cmp r es)
@@ -20,8 +20,7 @@ nat_greater a b lt = grind (arith, common_steps)
 
 -- A rank below all of a list is not found in it.
 none_below : (r : ℕ) (es : List EventPlace) → AreAbove r es → place_of r es ≡ None
-none_below r [] h = refl
-none_below r (e ∷ es) h = ap (λ o. cond (is_eq o) (Some e.1) (place_of r es)) (nat_less r e.0 h.0) ∙ none_below r es h.1
+none_below r es h = find_none nat_cmp r es (above_below r es h)
 
 -- What an index finds under a key.
 pub found_at : (key : ℕ) (es : List EventPlace) → AreRising es → filed_at key (from key es) ≡ place_of key es
@@ -105,15 +104,9 @@ pub below_under : (n : ℕ) (es : List EventPlace) → AreBelow n (below n es)
 below_under n [] = tt
 below_under n (e ∷ es) = elim (nat_lt e.0 n) as (λ b. nat_lt e.0 n ≡ b → AreBelow n (cond b (e ∷ below n es) [])) [ true ↦ λ y. ((Decides-ltb e.0 n).0 y, below_under n es) | false ↦ λ _. tt ] refl
 
--- It stays above a number.
-below_above : (m n : ℕ) (es : List EventPlace) → AreAbove m es → AreAbove m (below n es)
-below_above m n [] h = tt
-below_above m n (e ∷ es) h = elim (nat_lt e.0 n) as (λ b. AreAbove m (cond b (e ∷ below n es) [])) [ true ↦ (h.0, below_above m n es h.1) | false ↦ tt ]
-
 -- It rises.
 pub below_rising : (n : ℕ) (es : List EventPlace) → AreRising es → AreRising (below n es)
-below_rising n [] h = tt
-below_rising n (e ∷ es) h = elim (nat_lt e.0 n) as (λ b. AreRising (cond b (e ∷ below n es) [])) [ true ↦ (below_above e.0 n es h.0, below_rising n es h.1) | false ↦ tt ]
+below_rising n es h = (rising_parts (below n es) (from n es) (subst AreRising (sym (cut_whole n es)) h)).0
 
 -- No place from the end of a slot's ranks on is of its transaction.
 below_seg : (t : ℕ) (es : List EventPlace) → AreRising es → segment t (below (rank (t + 1) 0) es) ≡ segment t es

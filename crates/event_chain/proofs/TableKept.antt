@@ -126,3 +126,13 @@ slot_there o n h = grind (arith, common_steps)
 -- Such rows rise, each with a slot of its own.
 pub slotted : (t : Table) (ss : List ℕ) → IsTable t.rows ss t.capacity → AreSlotted t
 slotted t ss table = record { rising = table.rising; apart = table.apart; below = table.below; few = table.few }
+
+-- Tables of equal parts.
+pub table_of : (t : Table) (rows : List TxRow) (ss : List ℕ) (capacity : ℕ) → t.rows ≡ rows → t.capacity ≡ capacity → IsTable rows ss capacity → IsTable t.rows ss t.capacity
+table_of t rows ss capacity rows_are capacity_is h = subst (λ n. IsTable t.rows ss n) (sym capacity_is) (subst (λ rs. IsTable rs ss capacity) (sym rows_are) h)
+
+-- A table with a row written, whose slot is kept.
+pub table_set : (t new : Table) (ss : List ℕ) (tx : List ℕ) (r : TableRow) → IsTable t.rows ss t.capacity → option_map (λ (x : TableRow). x.slot) (row_of tx t.rows) ≡ Some r.slot
+    → new.rows ≡ with_row tx r t.rows → new.capacity ≡ t.capacity → IsTable new.rows ss new.capacity
+table_set t new ss tx r table slot rows capacity = let old = slot_there (row_of tx t.rows) r.slot slot in
+    table_of new (with_row tx r t.rows) ss t.capacity rows capacity (IsTable-set t.rows ss t.capacity tx old.0 r table old.1.0 old.1.1)

@@ -9,7 +9,7 @@ use Rattle.event_chain.{specs.Table.TxRow, specs.Flat.{EventPlace, place_of}, sp
 not_free : (o : Option Held) (h : Held) → o ≡ Some h → o ≡ None → ⊥
 not_free o h a b = cc
 
-module _ (rows : List TxRow) (es live : List EventPlace) (slots : List (Option Held)) (keyed : IsKeyed rows es slots) (lives : IsSub is_live es slots live) where
+module _ {rows : List TxRow} {es live : List EventPlace} {slots : List (Option Held)} (keyed : IsKeyed rows es slots) (lives : IsSub is_live es slots live) where
   -- The event of a live place is in its slot, under its rank.
   held_live : (r s : ℕ) → place_of r live ≡ Some s → (stored : Stored) × (value_at slots s ≡ Some (r, stored))
   held_live r s at = let home = keyed.homes r s (chosen_place is_live slots (place_of r es) s (sym (lives.each r) ∙ at)) in (home.stored, home.held_is)

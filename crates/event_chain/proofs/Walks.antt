@@ -1,11 +1,11 @@
 -- The steps of a walk over linked places.
-use Rattle.std.{proofs.lemmas.Grind.common_steps, proofs.Common.{◌≡◌, ℕ, ◌+◌, ◌<◌, ◌/◌, ◌%◌, ◌^◌, ◌==◌, ◌&&◌, nat_lt, Bool, true, false, cond, List, [], ◌∷◌, ◌++◌, Option, Some, None, length, map, drop, slice_get, option_map, inl, inr, refl, sym, ap, ◌∙◌, subst, arith}, specs.Prelude.slice_index, specs.List.filter, proofs.lemmas.Bool.{cases_eq, and_parts}, proofs.lemmas.Bool.Decides.{Decides-ltb, Decides-eqb}}
+use Rattle.std.{proofs.lemmas.Grind.common_steps, proofs.Common.{◌≡◌, ℕ, ◌+◌, ◌<◌, ◌/◌, ◌%◌, ◌^◌, ◌==◌, ◌&&◌, nat_lt, Bool, true, false, cond, List, [], ◌∷◌, ◌++◌, Option, Some, None, length, map, drop, slice_get, option_map, inl, inr, refl, sym, ap, ◌∙◌, subst, arith}, specs.Prelude.slice_index, specs.List.filter, specs.Ordering.nat_cmp, specs.FinMap.Entries.is_sorted-where_key, proofs.lemmas.Bool.{cases_eq, and_parts}, proofs.lemmas.Bool.Decides.{Decides-ltb, Decides-eqb}}
 use Rattle.slot_arena.specs.Arena.{value_at}
 use Rattle.key_index.specs.Entries.{AreAbove, below, AreBelow}
 use Rattle.key_index.specs.Entries as entries
-use Rattle.ledger_model.{specs.BoardLaws.AreRising, proofs.Callers.{first, second}, specs.Content.Stored}
+use Rattle.ledger_model.{specs.BoardLaws.AreRising, proofs.Callers.second, specs.Content.Stored}
 use Rattle.event_store.specs.Slots.{Held}
-use Rattle.event_chain.{specs.Flat.{EventPlace, place_of, segment}, specs.Edits.places_behind, specs.Kept.AreRanks, specs.Lists.{slot_in, HasRank, AreOwn}, specs.Walk.{number_in, is_under, are_under, numbers_on, numbers_from}, proofs.Decided.{rank_test, not_so}, proofs.Lives.below_none, proofs.Members.{AllPlaces, all_found, never}, proofs.Places.{below_under, ranks_of}, proofs.Splits.{cut_present, behind_present}}
+use Rattle.event_chain.{specs.Flat.{EventPlace, place_of, segment}, specs.Edits.places_behind, specs.Kept.AreRanks, specs.Lists.{slot_in, HasRank, AreOwn}, specs.Walk.{number_in, is_under, are_under, numbers_on, numbers_from}, proofs.Decided.{rank_test, not_so}, proofs.Changes.{find_first, find_rest}, proofs.Flats.in_segment, proofs.Lives.first_left, proofs.Members.{AllPlaces, all_found}, proofs.Places.{below_under, ranks_of}, proofs.Splits.{cut_present, behind_present}}
 
 -- Each number is above this one.
 abbrev AllAbove : ℕ → List ℕ → Type 0
@@ -45,20 +45,20 @@ above_all n (e ∷ es) h = grind (arith, common_steps, above_all n es h.1)
 behind_first : (e : EventPlace) (es : List EventPlace) → entries.AreRising (e ∷ es) → filter (λ x. nat_lt e.0 x.0) (e ∷ es) ≡ es
 behind_first e es h = grind (arith, common_steps, not_so, Decides-ltb, above_all)
 
--- Those greater than a greater rank are among the greater.
-greater_twice : (n m : ℕ) (es : List EventPlace) → n < m → filter (λ e. nat_lt m e.0) (filter (λ e. nat_lt n e.0) es) ≡ filter (λ e. nat_lt m e.0) es
-greater_twice n m [] lt = refl
-greater_twice n m (e ∷ es) lt = grind (arith, common_steps, greater_twice n m es lt)
+-- Those greater than a rank are among those that a test of greater ranks leaves.
+greater_twice : (g : ℕ → Bool) (n : ℕ) (es : List EventPlace) → ((m : ℕ) → n < m → g m ≡ true) → filter (λ e. nat_lt n e.0) (filter (λ e. g e.0) es) ≡ filter (λ e. nat_lt n e.0) es
+greater_twice g n [] up = refl
+greater_twice g n (e ∷ es) up = grind (arith, common_steps, up e.0, greater_twice g n es up)
+
+-- A test that all pass leaves all.
+all_pass : (es : List EventPlace) → filter (λ e. true) es ≡ es
+all_pass [] = refl
+all_pass (e ∷ es) = ap (λ (xs : List EventPlace). e ∷ xs) (all_pass es)
 
 -- What holds of all holds of those in front of a rank.
 all_below : (P : EventPlace → Type 0) (n : ℕ) (es : List EventPlace) → AllPlaces P es → AllPlaces P (below n es)
 all_below P n [] h = tt
 all_below P n (e ∷ es) h = elim (nat_lt e.0 n) as (λ b. AllPlaces P (cond b (e ∷ below n es) [])) [ true ↦ (h.0, all_below P n es h.1) | false ↦ tt ]
-
--- The test holds too of what it leaves.
-all_tested : (P : EventPlace → Type 0) (f : EventPlace → Bool) (es : List EventPlace) → AllPlaces P es → AllPlaces (λ p. (f p ≡ true) × P p) (filter f es)
-all_tested P f [] h = tt
-all_tested P f (e ∷ es) h = grind (arith, common_steps, all_tested P f es h.1)
 
 -- No place in front of a slot's has the slot.
 none_front : (s r : ℕ) (es : List EventPlace) → AllPlaces (λ p. p.1 ≡ s → p.0 ≡ r) es → AreBelow r es → AllPlaces (λ p. p.1 ≡ s → ⊥) es
@@ -85,14 +85,8 @@ pub rank_on : (s : ℕ) (es : List EventPlace) → AreRanks es → 0 < length (n
 rank_on s [] ranks some = absurd (omega arith)
 rank_on s (e ∷ es) ranks some =
     elim (e.1 == s) as (λ b. (e.1 == s) ≡ b → 0 < length (cond b (number_in e ∷ map number_in (segment (e.0 / 2 ^ 31) es)) (numbers_on s es)) → HasRank (e ∷ es) s) [
-      | true ↦ λ y _. record { rank = e.0; found = ap (λ b. cond b (Some e.1) (place_of e.0 es)) ((rank_test e.0 e.0).1 refl) ∙ ap Some ((Decides-eqb e.1 s).0 y) }
-      | false ↦ λ _ rest. let has = rank_on s es (second _ _ ranks) rest in
-          record {
-            rank = has.rank;
-            found = ap (λ b. cond b (Some e.1) (place_of has.rank es))
-                (not_so _ (rank_test has.rank e.0) (λ k. never (place_of has.rank es) s has.found (ap (λ r. place_of r es) k ∙ below_none e.0 es (first _ _ ranks))))
-                ∙ has.found;
-          }
+      | true ↦ λ y _. record { rank = e.0; found = find_first nat_cmp rank_test e es ∙ ap Some ((Decides-eqb e.1 s).0 y) }
+      | false ↦ λ _ rest. let has = rank_on s es (second _ _ ranks) rest in record { rank = has.rank; found = find_rest nat_cmp rank_test e es ranks has.rank s has.found }
     ] refl some
 
 -- The event of a place that is found has its rank.
@@ -124,16 +118,6 @@ told b ns some = grind (arith, common_steps)
 held_same : (o : Option Held) (a b : Held) → o ≡ Some a → o ≡ Some b → a ≡ b
 held_same o a b x y = cc
 
--- A list that has a first is that and the rest.
-first_of_some : (xs : List EventPlace) (e : EventPlace) → slice_get xs 0 ≡ Some e → (ps : List EventPlace) × (xs ≡ e ∷ ps)
-first_of_some [] e none = cc
-first_of_some (x ∷ xs) e some = let same : x ≡ e = cc in (xs, ap (λ (y : EventPlace). y ∷ xs) same)
-
--- The first of some places is found in the index, and behind it are the others.
-pub record IsNext (es : List EventPlace) (e : EventPlace) (ps : List EventPlace) : Type 0 where
-  pub rest : places_behind e.0 es ≡ ps
-  pub found : place_of e.0 es ≡ Some e.1
-
 -- The places from a place on; none if there is no place.
 abbrev pub on_from : List EventPlace → Option EventPlace → List EventPlace
 on_from es None = []
@@ -149,50 +133,40 @@ pub record IsLeft (es : List EventPlace) (place : Option EventPlace) (ps : List 
   pub left : on_from es place ≡ ps
   pub found : IsFound es place
 
+-- What is there if a test lets it be.
+if_there : (b : Bool) (o : Option ℕ) (s : ℕ) → cond b o None ≡ Some s → (b ≡ true) × (o ≡ Some s)
+if_there b o s is = grind (arith, common_steps)
+
 module _ (es : List EventPlace) (rising : entries.AreRising es) where
-  -- Places that are found.
-  found_all : AllPlaces (λ p. place_of p.0 es ≡ Some p.1) es
-  found_all = all_found (λ p. place_of p.0 es ≡ Some p.1) es (ranks_of es rising) (λ p at. at)
+  -- Places of a transaction that a test of greater ranks leaves are left from the first of them on.
+  left_of : (t : ℕ) (g : ℕ → Bool) → ((n m : ℕ) → g n ≡ true → n < m → g m ≡ true) → (ps : List EventPlace) → filter (λ e. g e.0) (segment t es) ≡ ps → IsLeft es (slice_get ps 0) ps
+  left_of t g up [] is = record { left = refl; found = tt }
+  left_of t g up (e ∷ ps) is =
+      let of_t = λ (x : EventPlace). x.0 / 2 ^ 31 == t in
+      let ranks = is_sorted-where_key nat_cmp (λ r. r / 2 ^ 31 == t) es (ranks_of es rising) in
+      let own = first_left (λ x. g x.0) (segment t es) e ranks (ap (λ xs. slice_get xs 0) is) in
+      let there = if_there (e.0 / 2 ^ 31 == t) (place_of e.0 es) e.1 (sym (in_segment t e.0 es) ∙ own.0) in
+      let rises = subst entries.AreRising is (left_rising (λ x. g x.0) (segment t es) (left_rising of_t es rising)) in
+      let behind : places_behind e.0 es ≡ ps =
+      ap (λ k. filter (λ (x : EventPlace). nat_lt e.0 x.0) (segment k es)) ((Decides-eqb (e.0 / 2 ^ 31) t).0 there.0) ∙ sym (greater_twice g e.0 (segment t es) (λ m. up e.0 m own.1))
+      ∙ ap (filter (λ (x : EventPlace). nat_lt e.0 x.0)) is ∙ behind_first e ps rises in
+      record { left = ap (λ (xs : List EventPlace). e ∷ xs) behind; found = there.1 }
 
-  -- The first place of a transaction.
-  pub first_next : (t : ℕ) (e : EventPlace) (ps : List EventPlace) → segment t es ≡ e ∷ ps → IsNext es e ps
-  first_next t e ps is =
-      let mine = all_tested (λ p. place_of p.0 es ≡ Some p.1) (λ p. p.0 / 2 ^ 31 == t) es found_all in
-      let here = subst (AllPlaces (λ p. ((p.0 / 2 ^ 31 == t) ≡ true) × (place_of p.0 es ≡ Some p.1))) is mine in
-      let home : e.0 / 2 ^ 31 ≡ t = (Decides-eqb (e.0 / 2 ^ 31) t).0 here.0.0 in
-      let up = subst entries.AreRising is (left_rising (λ p. p.0 / 2 ^ 31 == t) es rising) in
-      record {
-        rest = ap (λ k. filter (λ (x : EventPlace). nat_lt e.0 x.0) (segment k es)) home ∙ ap (filter (λ (x : EventPlace). nat_lt e.0 x.0)) is ∙ behind_first e ps up;
-        found = here.0.1;
-      }
-
-  -- The first place behind a rank.
-  pub behind_next : (r : ℕ) (e : EventPlace) (ps : List EventPlace) → places_behind r es ≡ e ∷ ps → IsNext es e ps
-  behind_next r e ps is =
-      let t = r / 2 ^ 31 in
-      let mine = all_tested (λ p. place_of p.0 es ≡ Some p.1) (λ p. p.0 / 2 ^ 31 == t) es found_all in
-      let after = all_tested (λ p. ((p.0 / 2 ^ 31 == t) ≡ true) × (place_of p.0 es ≡ Some p.1)) (λ p. nat_lt r p.0) (segment t es) mine in
-      let here = subst (AllPlaces (λ p. (nat_lt r p.0 ≡ true) × (((p.0 / 2 ^ 31 == t) ≡ true) × (place_of p.0 es ≡ Some p.1)))) is after in
-      let home : e.0 / 2 ^ 31 ≡ t = (Decides-eqb (e.0 / 2 ^ 31) t).0 here.0.1.0 in
-      let more : r < e.0 = (Decides-ltb r e.0).0 here.0.0 in
-      let up = subst entries.AreRising is (left_rising (λ p. nat_lt r p.0) (segment t es) (left_rising (λ p. p.0 / 2 ^ 31 == t) es rising)) in
-      record {
-        rest = ap (λ k. filter (λ (x : EventPlace). nat_lt e.0 x.0) (segment k es)) home ∙ sym (greater_twice r e.0 (segment t es) more)
-            ∙ ap (filter (λ (x : EventPlace). nat_lt e.0 x.0)) is ∙ behind_first e ps up;
-        found = here.0.1.1;
-      }
-
+  -- The places of a transaction.
   pub left_first : (t : ℕ) → IsLeft es (slice_get (segment t es) 0) (segment t es)
-  left_first t = step (segment t es) refl where
-    step : (ps : List EventPlace) → segment t es ≡ ps → IsLeft es (slice_get ps 0) ps
-    step [] is = record { left = refl; found = tt }
-    step (e ∷ ps) is = let n = first_next t e ps is in record { left = ap (λ (xs : List EventPlace). e ∷ xs) n.rest; found = n.found }
+  left_first t = left_of t (λ _. true) (λ n m _ _. refl) (segment t es) (all_pass (segment t es))
 
+  -- Those behind a rank.
   pub left_behind : (r : ℕ) → IsLeft es (slice_get (places_behind r es) 0) (places_behind r es)
-  left_behind r = step (places_behind r es) refl where
-    step : (ps : List EventPlace) → places_behind r es ≡ ps → IsLeft es (slice_get ps 0) ps
-    step [] is = record { left = refl; found = tt }
-    step (e ∷ ps) is = let n = behind_next r e ps is in record { left = ap (λ (xs : List EventPlace). e ∷ xs) n.rest; found = n.found }
+  left_behind r = left_of (r / 2 ^ 31) (nat_lt r) (λ n m less lt. (Decides-ltb r m).1 (omega (arith, (Decides-ltb r n).0 less))) (places_behind r es) refl
+
+-- The place of a slot.
+place_in : (o : Option EventPlace) (k : ℕ) → Some k ≡ option_map slot_in o → (e : EventPlace) × ((o ≡ Some e) × (k ≡ e.1))
+place_in o k is = grind (arith, common_steps)
+
+-- No slot, no place.
+no_place : (o : Option EventPlace) → None ≡ option_map slot_in o → o ≡ None
+no_place o is = grind (arith, common_steps)
 
 module _ (es : List EventPlace) (slots : List (Option Held)) (rising : entries.AreRising es) (own : AreOwn es) where
   -- The place of a walk at a slot.
@@ -215,13 +189,13 @@ module _ (es : List EventPlace) (slots : List (Option Held)) (rising : entries.A
   at_place s some = let parts = told (are_under slots es) (numbers_on s es) some in let has = rank_on s es (ranks_of es rising) parts.1 in at_found has.rank s parts.0 has.found
 
   -- Numbers from the first of some places on are theirs.
-  from_first : (e : EventPlace) (ps : List EventPlace) → are_under slots es ≡ true → place_of e.0 es ≡ Some e.1 → places_behind e.0 es ≡ ps → numbers_from es slots e.1 ≡ number_in e ∷ map number_in ps
+  numbers_left : (e : EventPlace) (o : Option EventPlace) (ps : List EventPlace) → are_under slots es ≡ true → o ≡ Some e → IsLeft es o ps → numbers_from es slots e.1 ≡ map number_in ps
   unfolding at_found
-  from_first e ps all there behind = (at_found e.0 e.1 all there).numbers ∙ ap (λ xs. number_in e ∷ map number_in xs) behind
+  numbers_left e o ps all is left = let here = subst (λ x. IsLeft es x ps) is left in (at_found e.0 e.1 all here.found).numbers ∙ ap (map number_in) here.left
 
   -- A walk starts at the first place of its transaction.
   pub start_some : (t : ℕ) (e : EventPlace) → are_under slots es ≡ true → slice_get (segment t es) 0 ≡ Some e → numbers_from es slots e.1 ≡ map number_in (segment t es)
-  start_some t e all first_is = grind (arith, common_steps, first_of_some, first_next, from_first)
+  start_some t e all is = numbers_left e (slice_get (segment t es) 0) (segment t es) all is (left_first es rising t)
 
   module _ (s : ℕ) (at : IsAt s) where
     abbrev behind : List EventPlace
@@ -234,15 +208,10 @@ module _ (es : List EventPlace) (slots : List (Option Held)) (rising : entries.A
     pub number_read : (h : Held) → value_at slots s ≡ Some h → h.0 % 2 ^ 31 ≡ slice_index (numbers_from es slots s) 0
     number_read h here = grind (arith, common_steps, held_same)
 
-    next_from : (e : EventPlace) (ps : List EventPlace) → behind ≡ e ∷ ps → numbers_from es slots e.1 ≡ map number_in behind
-    next_from e ps is = let next = behind_next es rising at.rank e ps is in from_first e ps at.all next.found next.rest ∙ ap (map number_in) (sym is)
-
     -- A step goes to the first place behind.
     pub next_some : (k : ℕ) → Some k ≡ option_map slot_in (slice_get behind 0) → numbers_from es slots k ≡ drop 1 (numbers_from es slots s)
-    next_some k is = step behind refl is ∙ sym rest_is where
-      step : (xs : List EventPlace) → behind ≡ xs → Some k ≡ option_map slot_in (slice_get xs 0) → numbers_from es slots k ≡ map number_in behind
-      step [] _ none = cc
-      step (e ∷ ps) xs_is some = let same : k ≡ e.1 = cc in ap (numbers_from es slots) same ∙ next_from e ps xs_is
+    next_some k is = let e = place_in (slice_get behind 0) k is in
+        ap (numbers_from es slots) e.1.1 ∙ numbers_left e.0 (slice_get behind 0) behind at.all e.1.0 (left_behind es rising at.rank) ∙ sym rest_is
 
     -- There are numbers from it on.
     pub next_stands : (k : ℕ) → Some k ≡ option_map slot_in (slice_get behind 0) → 0 < length (numbers_from es slots k)
@@ -250,10 +219,7 @@ module _ (es : List EventPlace) (slots : List (Option Held)) (rising : entries.A
 
     -- Where there is none behind, the walk is over.
     pub next_none : None ≡ option_map slot_in (slice_get behind 0) → [] ≡ drop 1 (numbers_from es slots s)
-    next_none is = over behind refl is ∙ sym rest_is where
-      over : (xs : List EventPlace) → behind ≡ xs → None ≡ option_map slot_in (slice_get xs 0) → [] ≡ map number_in behind
-      over [] xs_is _ = ap (map number_in) (sym xs_is)
-      over (e ∷ ps) _ none = cc
+    next_none is = ap (map number_in) (ap (on_from es) (sym (no_place (slice_get behind 0) is)) ∙ (left_behind es rising at.rank).left) ∙ sym rest_is
 
 -- Where a transaction has no first place it has no numbers.
 pub start_none : (ps : List EventPlace) → None ≡ slice_get ps 0 → [] ≡ map number_in ps

@@ -1,6 +1,6 @@
-use Rattle.std.proofs.Common.{ℕ, List, ◌≡◌, ◌+◌, ◌<◌, ◌^◌, None, Some, false, IfSome, is_some, option_map, length, sym, ap, ◌∙◌, subst, arith}
-use Rattle.event_chain.{specs.Placed.carriers_of, specs.declared.row.TableRow.TableRow, specs.Table.{Table, TxRow, row_of, with_row, IsRowAt}, specs.Chains.{Chained, stored}, specs.Kept.{IsEntered, IsKeyed, end_count}, specs.Flat.flat, specs.Sides.AreSides, proofs.Facts.{entries_all, enter_room, event_room, reading_room, counts_few, none_at, places_few, entered_named}, proofs.Used.unused_free, proofs.Inserts.{Inserted, inserted, inserted_events}, proofs.chains.Chains.admit.Goals.After-renew}
-use Rattle.ledger_model.{specs.ByDirection.in_direction, specs.Deltas.first_reading, specs.Event.toward}
+use Rattle.std.proofs.Common.{ℕ, List, ◌≡◌, ◌+◌, ◌<◌, ◌^◌, None, Some, true, false, refl, IfSome, is_some, option_map, length, sym, ap, ◌∙◌, subst, arith}
+use Rattle.event_chain.{specs.declared.row.TableRow.TableRow, specs.Table.{Table, TxRow, row_of, with_row, IsRowAt}, specs.Chains.{Chained, stored}, specs.Kept.{IsEntered, IsKeyed, end_count}, specs.Flat.flat, specs.Sides.AreSides, proofs.Facts.{all_seen, enter_room, event_room, reading_room, counts_few, none_at, places_few, entered_named}, proofs.Used.unused_free, proofs.Changes.change_put, proofs.Looks.turned_named, proofs.Named.named_after, proofs.Ops.{IsDone, chains_done, events_put, moved_more, not_live_at}, proofs.chains.Chains.admit.Goals.After-renew}
+use Rattle.ledger_model.{specs.ByDirection.in_direction, specs.Deltas.first_reading, specs.Event.toward, specs.Content.Stored}
 use Rattle.std.specs.FinMap as finite
 use Rattle.key_index.specs.Key.{rank}
 use Rattle.event_chain.proofs.chains.Chains.admit.Goals as goal
@@ -10,30 +10,41 @@ known : {old new : Table} {mid : List TxRow} {tx own : List ℕ} {row : TableRow
 known {old = old} {mid = mid} {tx = tx} {row = row} same is entered = subst (λ t. IsEntered old.rows mid t row) is (subst (λ (x : Table). IsEntered x.rows mid tx row) same entered)
 
 -- What was done to each part.
-done : (c : After-renew) → Inserted c.self.invariant c.args.key.now c.enter-known.new.table.rows c.enter-known.result.0 c.new-at.result c.renew.new.table c.put-slot.new.self
-    c.insert.new.self.stored c.insert.new.self.live (carriers_of c.insert.new.self) c.insert.new.self.naming c.row_with-after.result
-    c.put-slot.result c.args.event.now (λ d. in_direction d c.carried_by-carries.result) c.is_some-names_evse.result
-done c = record {
-  entered = known c.seek-found.ensures.same c.tx-tx.ensures c.enter-known.ensures.entered;
-  number = omega (arith, c.seq.ensures.value, c.seq.ensures.range);
-  rank_is = c.new-at.ensures ∙ ap (rank c.enter-known.result.0.slot) c.seq.ensures.value;
-  absent = ap (λ (x : Chained). finite.get x.events c.args.key.now) c.self.view_is ∙ c.requires.absent;
-  rows = c.renew.ensures.rows ∙ ap (λ t. with_row t c.row_with-after.result c.enter-known.new.table.rows) c.tx-tx.ensures;
-  transactions = c.renew.ensures.capacity ∙ c.enter-known.ensures.capacity ∙ ap (λ (x : Table). x.capacity) c.seek-found.ensures.same;
-  slotted = c.renew.ensures.slotted;
-  free = c.put-slot.ensures.was_free;
-  within = c.put-slot.ensures.within;
-  slots = c.put-slot.ensures.slots;
-  readings = c.put-slot.ensures.readings;
-  room = c.put-slot.ensures.capacity;
-  stored_is = c.insert.ensures.stored;
-  live_is = c.insert.ensures.lives.live;
-  carriers_is = c.insert.ensures.lives.carriers;
-  naming_is = c.insert.ensures.lives.naming;
-  carries_is = λ d. c.carried_by-carries.ensures d ∙ ap (λ rs. is_some (first_reading (toward d rs))) c.readings.ensures.value;
-  names_is = c.is_some-names_evse.ensures ∙ ap is_some c.evse.ensures.value;
-  after_is = c.row_with-after.ensures ∙ ap (λ k. record c.enter-known.result.0 { live = c.enter-known.result.0.live + 1; ends = c.enter-known.result.0.ends + end_count k }) c.kind.ensures;
-}
+done : (c : After-renew) → IsDone c.self.inside.table c.renew.new.table c.self.inside.store c.put-slot.new.self c.self.inside.places c.insert.new.self c.args.key.now c.enter-known.result.0
+    c.new-at.result c.put-slot.result None (Some (record { event = c.args.event.now; voided = false }))
+done c =
+    let m = c.self.inside in let k = c.self.invariant in let key = c.args.key.now in let row = c.enter-known.result.0 in let mid = c.enter-known.new.table.rows in
+    let after = c.row_with-after.result in let event = c.args.event.now in let r0 = c.new-at.result in let s0 = c.put-slot.result in
+    let entered = known c.seek-found.ensures.same c.tx-tx.ensures c.enter-known.ensures.entered in
+    let number : key.seq < 2 ^ 31 = omega (arith, c.seq.ensures.value, c.seq.ensures.range) in let rank_is = c.new-at.ensures ∙ ap (rank row.slot) c.seq.ensures.value in
+    let none = none_at k mid key row r0 (ap (λ (x : Chained). finite.get x.events key) c.self.view_is ∙ c.requires.absent) entered number rank_is in
+    let places = change_put true r0 s0 (Some s0) m.places.stored c.insert.new.self.stored c.insert.ensures.stored none refl in
+    let now : after ≡ record row { live = row.live + 1; ends = row.ends + end_count event.kind } =
+    c.row_with-after.ensures ∙ ap (λ k. record row { live = row.live + 1; ends = row.ends + end_count k }) c.kind.ensures in
+    record {
+      place = record {
+        keyed = k.keyed;
+        number = number;
+        rank_is = rank_is;
+        at = none;
+        here = c.put-slot.ensures.was_free;
+        within = c.put-slot.ensures.within;
+        known = (entered_named m.table.rows mid key.tx row entered).known;
+      };
+      turned = turned_named m.table.rows c.renew.new.table.rows m.places.stored.entries c.insert.new.self.stored.entries key.tx row after r0 s0 None (Some (record { event = event; voided = false }))
+          (named_after m.table.rows mid c.renew.new.table.rows key.tx row after entered
+          (c.renew.ensures.rows ∙ ap (λ t. with_row t after mid) c.tx-tx.ensures) (ap (λ (r : TableRow). r.slot) now))
+          c.renew.ensures.slotted.rising c.renew.ensures.slotted.apart places (omega (arith, number, rank_is))
+          (omega (arith, ap (λ (r : TableRow). r.live) now)) (omega (arith, ap (λ (r : TableRow). r.ends) now));
+      places = places;
+      slots = c.put-slot.ensures.slots;
+      moved = moved_more r0 s0 event c.carried_by-carries.result c.is_some-names_evse.result m.places c.insert.new.self c.insert.ensures.lives (not_live_at m.places k none)
+          (λ d. c.carried_by-carries.ensures d ∙ ap (λ rs. is_some (first_reading (toward d rs))) c.readings.ensures.value) (c.is_some-names_evse.ensures ∙ ap is_some c.evse.ensures.value);
+      transactions = c.renew.ensures.capacity ∙ c.enter-known.ensures.capacity ∙ ap (λ (x : Table). x.capacity) c.seek-found.ensures.same;
+      readings = omega (arith, c.put-slot.ensures.readings);
+      readings_room = c.put-slot.ensures.capacity;
+      stored_room = λ i. (c.insert.ensures.stored i).capacity;
+    }
 
 pub around_of-requires-clause-keyed : goal.around_of-requires-clause-keyed
 around_of-requires-clause-keyed c = let m = c.self.inside in subst (λ (x : Table). IsKeyed x.rows m.places.stored.entries m.store.slots) (sym c.seek-found.ensures.same) c.self.invariant.keyed
@@ -75,7 +86,7 @@ insert-requires c =
       room = omega (arith, event_room k key.tx (length c.args.event.now.readings) c.self.view_is c.requires.room, k.roomy.for_stored);
       slot_for = record {
         within = omega (arith, c.put-slot.ensures.within, k.counted.slots_are, k.roomy.for_live);
-        unused = unused_free m.table.rows m.places.stored.entries m.places.live.entries m.store.slots k.keyed k.indexed.lives c.put-slot.result c.put-slot.ensures.was_free;
+        unused = unused_free k.keyed k.indexed.lives c.put-slot.result c.put-slot.ensures.was_free;
       };
     }
 
@@ -93,16 +104,15 @@ renew-requires-clause-slot c =
     ∙ ap Some (sym (ap (λ (r : TableRow). r.slot) c.row_with-after.ensures))
 
 pub invariant_of-self : goal.invariant_of-self
-invariant_of-self c = inserted (done (goal.at.invariant_of-self c).After-renew)
+invariant_of-self c = chains_done c.self.invariant (done (goal.at.invariant_of-self c).After-renew)
 
 pub returns-clause-events : goal.returns-clause-events
-returns-clause-events c = inserted_events (done (goal.at.returns-clause-events c).After-renew)
-    ∙ ap (λ (x : Chained). finite.insert x.events c.args.key.now (record { event = c.args.event.now; voided = false })) c.self.view_is
+returns-clause-events c = let now : Stored = record { event = c.args.event.now; voided = false } in events_put c.self.invariant (done (goal.at.returns-clause-events c).After-renew) now refl
+    ∙ ap (λ (x : Chained). finite.insert x.events c.args.key.now now) c.self.view_is
 
 pub returns-clause-sides : goal.returns-clause-sides
 returns-clause-sides c d =
     let m = c.self.inside in let key = c.args.key.now in let slots = m.store.slots in let sides = in_direction d c.around_of.new.around in
     let has = c.carried_by-carries.ensures d ∙ ap (λ rs. is_some (first_reading (toward d rs))) c.readings.ensures.value in
-    let all = sym (entries_all c.self.invariant) in
-    let same = ap (λ (x : Table). flat x.rows m.places.stored.entries slots) c.seek-found.ensures.same ∙ all ∙ ap (λ (x : Chained). stored x) c.self.view_is in
+    let same = ap (λ (x : Table). flat x.rows m.places.stored.entries slots) c.seek-found.ensures.same ∙ all_seen c.self.invariant c.self.view_is in
     subst (λ b. AreSides d b key (stored c.args.self.now) sides) has (subst (λ es. AreSides d (in_direction d c.carried_by-carries.result) key es sides) same (c.around_of.ensures d))

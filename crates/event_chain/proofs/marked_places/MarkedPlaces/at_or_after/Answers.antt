@@ -1,22 +1,19 @@
-use Rattle.std.proofs.Common.{option_map, Some, None, sym, ap, ◌∙◌, subst}
-use Rattle.key_index.{specs.Marks.marked, specs.Entries.{from, first_of, AreRising}}
-use Rattle.event_chain.{specs.Placed.{Index, marked_places, place_in}, proofs.MarkedIndexes.{marked_from, marked_rising, first_place_in}}
+use Rattle.std.proofs.Common.{option_map, ap, ◌∙◌}
+use Rattle.event_chain.{specs.Placed.place_in, proofs.MarkedIndexes.{first_read, rises_read}}
 use Rattle.event_chain.proofs.marked_places.MarkedPlaces.at_or_after.Goals as goal
 
 pub returns-in-Some-clause-first : goal.returns-in-Some-clause-first
 returns-in-Some-clause-first c =
-    let m = c.self.inside in let r = c.args.key in let es = m.index.now.entries in let k = c.in-Some.mark in
-    c.slot_under.ensures ∙ ap (option_map place_in) c.at_or_after_marked.ensures ∙ sym (first_place_in (marked k (from r es))) ∙ ap first_of (marked_from (Some k) r es c.self.invariant)
-    ∙ ap (λ o. first_of (from r (marked_places o es))) (sym c.in-Some.is) ∙ ap (λ (x : Index). first_of (from r x.entries)) c.self.view_is
+    c.slot_under.ensures ∙ ap (option_map place_in) c.at_or_after_marked.ensures
+    ∙ first_read c.self.inside.index.now c.in-Some.is c.self.view_is c.self.invariant c.args.key
 
 pub returns-in-None-clause-first : goal.returns-in-None-clause-first
 returns-in-None-clause-first c =
-    let m = c.self.inside in let r = c.args.key in let es = m.index.now.entries in
-    c.slot_under-in-None.ensures ∙ ap (option_map place_in) c.at_or_after.ensures ∙ sym (first_place_in (from r es)) ∙ ap first_of (marked_from None r es c.self.invariant)
-    ∙ ap (λ o. first_of (from r (marked_places o es))) (sym c.in-None.is) ∙ ap (λ (x : Index). first_of (from r x.entries)) c.self.view_is
+    c.slot_under-in-None.ensures ∙ ap (option_map place_in) c.at_or_after.ensures
+    ∙ first_read c.self.inside.index.now c.in-None.is c.self.view_is c.self.invariant c.args.key
 
 pub returns-in-Some-clause-rising : goal.returns-in-Some-clause-rising
-returns-in-Some-clause-rising c = let m = c.self.inside in subst (λ (x : Index). AreRising x.entries) c.self.view_is (marked_rising m.mark m.index.now.entries c.self.invariant)
+returns-in-Some-clause-rising c = rises_read c.self.inside.index.now c.in-Some.is c.self.view_is c.self.invariant
 
 pub returns-in-None-clause-rising : goal.returns-in-None-clause-rising
-returns-in-None-clause-rising c = let m = c.self.inside in subst (λ (x : Index). AreRising x.entries) c.self.view_is (marked_rising m.mark m.index.now.entries c.self.invariant)
+returns-in-None-clause-rising c = rises_read c.self.inside.index.now c.in-None.is c.self.view_is c.self.invariant
