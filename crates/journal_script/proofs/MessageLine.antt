@@ -1,7 +1,7 @@
 -- What the line of a message says.
-use Rattle.std.{proofs.Common.{◌≡◌, ◌≢◌, ℕ, ◌≤◌, true, false, ◌==◌, ◌+◌, ◌-◌, List, [], ◌∷◌, ◌++◌, Some, length, get_or, refl, sym, ap, subst, ◌∙◌, arith, length-append, nat_lt, nat_le, ◌&&◌}, specs.Prelude.codes, specs.Io.BufRead.strip_last, specs.List.list_all, specs.Str.IsUtf8, proofs.lemmas.Bool.{false≢true, and_parts, leb-true}, proofs.lemmas.List.Elements.{All-append, All-cons, All-nil}, proofs.lemmas.List.Sums.AllPass-from_list_all}
-use Rattle.kept_desk.{specs.Entries.message_text, specs.Speaking.{AsksFor, Says, Speaks}}
-use Rattle.ledger_model.{specs.Name.{is_name, is_name_character}, specs.declared.command.Command.Command}
+use Rattle.std.{proofs.Common.{◌≡◌, ◌≢◌, ℕ, ◌≤◌, true, false, ◌==◌, ◌+◌, ◌-◌, List, [], ◌∷◌, ◌++◌, Some, length, get_or, refl, sym, ap, subst, ◌∙◌, arith, length-append, Result, Ok, Err, IfOk}, specs.Prelude.codes, specs.Io.BufRead.strip_last, specs.List.list_all, specs.Str.IsUtf8, proofs.lemmas.Bool.false≢true, proofs.lemmas.List.Elements.{All-append, All-cons, All-nil}, proofs.lemmas.List.Sums.AllPass-from_list_all}
+use Rattle.kept_desk.{specs.Entries.message_text, specs.Speaking.{AsksFor, Says, Speaks}, proofs.Written.short_name}
+use Rattle.ledger_model.{specs.Name.is_name, specs.declared.command.Command.Command}
 use Rattle.script_lines.{specs.LineMeaning.{line_meaning, sends}, specs.Lines.HasNoFeed, specs.Ranges.longest_line, proofs.MessageLines.{is_word_byte, msg_says, name_word}}
 use Rattle.journal_script.{specs.Speaking.StandsAsItIs, proofs.LastByte.{keeps_last, kept_last, last, last_behind}}
 
@@ -37,12 +37,6 @@ line_speaks name text line bytes command same is named utf8 feedless bare short 
     let says : line_meaning (Some bytes) ≡ sends name text = ap (λ l. line_meaning (Some l)) (same ∙ is) ∙ msg_says name text utf8 named in
     subst (λ l. Speaks name l command) same (record { feedless = feedless; bare = bare; short = short; says = subst (λ m. Says m name command) (sym says) (refl, asks) })
 
--- a name has few characters
-pub short_name : (name : List ℕ) → is_name name ≡ true → length name ≤ 48
-short_name name h =
-    let sizes = and_parts (nat_lt 0 (length name) && nat_le (length name) 48) (list_all is_name_character name) h in
-    leb-true (length name) 48 (and_parts (nat_lt 0 (length name)) (nat_le (length name) 48) sizes.0).1
-
 -- how long a message's line is
 line_length : (name text : List ℕ) → length (message_text name text) ≡ length name + length text + 5
 line_length name text = omega (arith, length-append name (32 ∷ text))
@@ -58,3 +52,8 @@ stands_by_parts name text named short bare feedless = record {
 
 pub stands_short : (name text : List ℕ) → StandsAsItIs name text → length text ≤ longest_line - 5 - length name
 stands_short name text stands = omega (arith, line_length name text, stands.short)
+
+-- what cannot be asked of a result is kept by it
+pub never_asked : {A E : Type 0} (S : Type 0) (P : A → Type 0) (r : Result A E) → (S → ⊥) → IfOk r (λ a. S → P a)
+never_asked S P (Ok a) no = λ s. absurd (no s)
+never_asked S P (Err e) no = tt

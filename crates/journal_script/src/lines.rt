@@ -1,9 +1,9 @@
 //! The lines of a journal.
-ghost use Rattle.std.{specs.Prelude.{◌≡◌, ◌↔◌, ◌≤◌, true, length, IsTrue, IfOk, OnOk}, specs.Io.BufRead.strip_last};
+ghost use Rattle.std.{specs.Prelude.{◌≡◌, ◌↔◌, ◌≤◌, ◌-◌, true, length, IsTrue, IfOk, OnOk}, specs.Io.BufRead.strip_last};
 ghost use Rattle.ledger_model.{specs.declared.command.Command.TheVariants.Deliver, specs.Name.is_name};
 ghost use Rattle.script_lines.{specs.LineMeaning.line_meaning, specs.Lines.{HasNoFeed, line_bytes}, specs.Ranges.longest_line};
 ghost use Rattle.kept_desk.{specs.Entries.message_text, specs.Speaking.{AsksFor, Says}};
-ghost use Rattle.journal_script.specs.Speaking.{StandsAsItIs};
+ghost use Rattle.journal_script.specs.Speaking.{SpeaksFor};
 
 use kept_desk::Line;
 use ledger_model::{Event, Key, Moment, Name};
@@ -46,15 +46,7 @@ impl MessageLine {
         if stands_as_it_is(name, text) {
             return Ok(MessageLine::AsItIs);
         }
-        let mut line = Vec::new(alloc);
-        put_message(&mut line, name, text)?;
-        // No law says that a text with spaces for line feeds asks for the same, so such a line is read.
-        put_spaces(&mut line);
-        if is_script_line(&line) && is_delivery(alloc, Some(&line), name, key, event) {
-            Ok(MessageLine::Spaced(line))
-        } else {
-            Ok(MessageLine::Unspoken)
-        }
+        spaced_line(alloc, name, text, key, event)
     }
 
     /// The line as a journal takes it, if there is one. The name and the text are those that it was made for.
@@ -75,10 +67,36 @@ const FRAME_BYTES: usize = 5;
 // Returns whether the message's line is a line of a script as it is: at most `MAX_LINE_BYTES`, without a line feed and
 // with no carriage return at its end.
 fn stands_as_it_is(name: &Name, text: &str) -> bool
-    ensures { IsTrue result ↔ StandsAsItIs name.now text.now }
+    ensures named { is_name name.now ≡ true }
+    ensures feedless { IsTrue result → HasNoFeed text.now }
+    ensures bare { IsTrue result → strip_last 13 text.now ≡ text.now }
+    ensures short { IsTrue result → length text.now ≤ longest_line - 5 - length name.now }
+    ensures all { HasNoFeed text.now → strip_last 13 text.now ≡ text.now → length text.now ≤ longest_line - 5 - length name.now → IsTrue result }
 {
     let bytes = text.as_bytes();
-    bytes.len() <= MAX_LINE_BYTES - FRAME_BYTES - name.text().len() && is_bare(bytes) && is_line(bytes)
+    let most = (MAX_LINE_BYTES - FRAME_BYTES).saturating_sub(name.text().len());
+    bytes.len() <= most && is_bare(bytes) && is_line(bytes)
+}
+
+// The line of a text that is not in the journal as it is. No law says that a text with spaces for line feeds asks for
+// the same, so such a line is read.
+fn spaced_line(
+    alloc: Global,
+    name: &Name,
+    text: &str,
+    key: &Key,
+    event: &Event,
+) -> Result<MessageLine, AllocError>
+    ensures { IfOk result (SpeaksFor name.now text.now (Deliver key.now event.now)) }
+{
+    let mut line = Vec::new(alloc);
+    put_message(&mut line, name, text)?;
+    put_spaces(&mut line);
+    if is_script_line(&line) && is_delivery(alloc, Some(&line), name, key, event) {
+        Ok(MessageLine::Spaced(line))
+    } else {
+        Ok(MessageLine::Unspoken)
+    }
 }
 
 // Makes the line `msg <name> <text>`.

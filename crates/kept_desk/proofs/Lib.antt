@@ -1,5 +1,5 @@
 mod Moves
-mod Written
+pub mod Written
 mod Lines
 pub mod Left
 pub mod Received

@@ -1,6 +1,7 @@
 -- What was written of an entry, part by part.
-use Rattle.std.{proofs.Common.{◌≡◌, ℕ, List, ◌∷◌, ◌++◌, Option, Result, Ok, Err, append_assoc, append-nil, sym, ap, ◌∙◌, [], subst}, specs.Io.KnownBytes.{Keeps, Appends}, specs.Prelude.codes, specs.Result.IsErr, proofs.KnownBytes.{Appends-trans, Appends-kept}}
+use Rattle.std.{proofs.Common.{◌≡◌, ◌≤◌, ℕ, true, ◌&&◌, nat_lt, nat_le, length, List, ◌∷◌, ◌++◌, Option, Result, Ok, Err, append_assoc, append-nil, sym, ap, ◌∙◌, [], subst}, specs.Io.KnownBytes.{Keeps, Appends}, specs.Prelude.codes, specs.List.list_all, specs.Result.IsErr, proofs.lemmas.Bool.{and_parts, leb-true}, proofs.KnownBytes.{Appends-trans, Appends-kept}}
 use Rattle.kept_desk.specs.Entries.{line_text, message_text}
+use Rattle.ledger_model.specs.Name.{is_name, is_name_character}
 use Rattle.script_lines.specs.Writing.{WritesFront}
 
 -- some bytes were written, and then these or their front
@@ -47,3 +48,9 @@ pub message_parts : (name text front bytes : List ℕ) → front ≡ codes "msg 
 message_parts name text front bytes front_is bytes_are =
     (λ i. front_is i ++ line_text (bytes_are i))
     ∙ ap (λ l. codes "msg " ++ l) (append_assoc name (32 ∷ []) (text ++ 10 ∷ []) ∙ sym (append_assoc name (32 ∷ text) (10 ∷ [])))
+
+-- a name has few characters
+pub short_name : (name : List ℕ) → is_name name ≡ true → length name ≤ 48
+short_name name h =
+    let sizes = and_parts (nat_lt 0 (length name) && nat_le (length name) 48) (list_all is_name_character name) h in
+    leb-true (length name) 48 (and_parts (nat_lt 0 (length name)) (nat_le (length name) 48) sizes.0).1

@@ -3,11 +3,11 @@ ghost use Rattle.std.specs.Prelude.{◌≡◌, ◌+◌, ◌≤◌, [], ◌∷◌
 ghost use Rattle.kept_desk.{specs.Entries.{bytes_of, entry, of_station}, specs.Held.Sits, specs.Rule.{keeping, holding, joined, knowing, reading}};
 ghost use Rattle.site_book.specs.Prefix.{IsPrefix};
 
+use crate::line::Line;
 use crate::table::{
     Adds, Compares, Confirms, Enlists, Gives, Leaves, PartsWithReceipt, ReadsReceipt, Receives,
     TableSeat, TakesIn, TheEntries, TheStation, Words,
 };
-use crate::line::Line;
 use ledger_model::Command;
 
 // A share leaves all that it knows to a new seat, since a seat that is joined can't be kept.
