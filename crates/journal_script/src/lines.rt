@@ -25,7 +25,7 @@ pub enum MessageLine {
 
 impl MessageLine {
     ghost use Rattle.std.specs.Prelude.{◌≡◌, IfOk, IfSome, IsTrue};
-    ghost use Rattle.ledger_model.specs.declared.command.Command.{Command, TheVariants.Deliver};
+    ghost use Rattle.ledger_model.{specs.declared.command.Command.Command, specs.declared.command.Command.TheVariants.Deliver};
     ghost use Rattle.kept_desk.{specs.Entries.bytes_of, specs.Speaking.{AsksFor, Speaks}};
     ghost use Rattle.journal_script.specs.Speaking.{SpeaksFor, StandsAsItIs};
 

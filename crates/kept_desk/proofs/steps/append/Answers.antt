@@ -6,6 +6,6 @@ pub load-requires : goal.load-requires
 load-requires g c = (
   search rules,
   search rules,
-  adds _ _ _ _ (entry c.args.station c.args.note.now (bytes_of c.args.line) c.args.command.now) c.requires.entries (ap (λ m. m.0.is_journal) c.requires.joined) (ap (λ m. m.0.is_share) c.requires.joined)
-      (sym (ap (λ m. m.0.station) c.requires.joined)),
+  adds _ _ _ _ (entry c.args.station c.args.note.now (bytes_of c.args.line) c.args.command.now) c.requires.entries
+      (ap (λ m. m.0.is_journal) c.requires.joined) (ap (λ m. m.0.is_share) c.requires.joined) (sym (ap (λ m. m.0.station) c.requires.joined)),
 )
