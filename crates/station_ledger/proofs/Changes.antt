@@ -1,19 +1,9 @@
 -- What an event that comes or goes changes: the pairs of each direction that go and come, and what its transaction
 -- counts for.
 use Rattle.std.proofs.Common.{◌≡◌, ℕ, ◌+◌, ◌≤◌, zero, suc, List, Option, length, sym, ap, subst, ◌∙◌, arith}
-use Rattle.ledger_model.{specs.declared.order.Order.Order, specs.declared.order.Order.TheVariants.Sequence, specs.declared.reading.Direction.Direction, specs.declared.reading.Direction.TheVariants.{Import, Export}, specs.Content.{Entry, Stored}, specs.ByDirection.in_direction, specs.declared.by_direction.ByDirection.ByDirection, specs.Deltas.{across, pairs_between, before_key, behind_key, came_by, gone_by, kept_by, if_read, most_for}, specs.Energy.Pair, specs.Event.{MeterReading, toward}, specs.Key.KeyName, specs.Limits.Bounds, specs.Ranges.most_event_readings, proofs.Callers.{few_moved, few_toward}}
+use Rattle.ledger_model.{specs.declared.order.Order.Order, specs.declared.order.Order.TheVariants.Sequence, specs.declared.reading.Direction.Direction, specs.declared.reading.Direction.TheVariants.{Import, Export}, specs.Content.{Entry, Stored}, specs.ByDirection.in_direction, specs.declared.by_direction.ByDirection.ByDirection, specs.Deltas.{across, pairs_between, before_key, behind_key, came_by, gone_by, kept_by, if_read, most_for}, specs.Energy.Pair, specs.Event.{MeterReading, toward}, specs.Key.KeyName, specs.Ranges.most_event_readings, proofs.Callers.{few_moved, few_toward}}
 use Rattle.event_chain.{specs.Chains.{Chained, stored}, specs.Room.readings_under, specs.Sides.{AreSides, side_if}, specs.declared.around.Sides.Sides}
-use Rattle.station_ledger.{specs.declared.pairs.Way.Way, specs.declared.pairs.Way.TheVariants.{Coming, Going}, specs.Moved.IsMoved, specs.Quarters.{both_length, readings_at}, specs.Runs.by_way, specs.Spent.most_at, specs.Sides.{has_some, sides_across, sides_between}, specs.Sums.{AreAllowed, IsTurning}, proofs.Moved.{moved_more, moved_back}, proofs.Trades.{IsTraded, traded}}
-
--- A change of a transaction's live events, with the pairs of each direction that go and come by sequence.
-pub record IsChange (limits : Bounds) (tx : List ℕ) (es new : List Entry) (gone came : Direction → List Pair) (most : ℕ) : Type 0 where
-  pub before : AreAllowed Sequence limits es
-  pub after : AreAllowed Sequence limits new
-  pub kept : Direction → List Pair
-  pub traded : (d : Direction) → IsTraded d tx es new (gone d) (came d) (kept d)
-  pub few_gone : (d : Direction) → length (gone d) ≤ most_event_readings + 2
-  pub few_came : (d : Direction) → length (came d) ≤ most_event_readings + 2
-  pub few : both_length gone + both_length came ≤ most
+use Rattle.station_ledger.{specs.declared.pairs.Way.Way, specs.declared.pairs.Way.TheVariants.{Coming, Going}, specs.Moved.IsMoved, specs.Quarters.readings_at, specs.Runs.by_way, specs.Spent.most_at, specs.Sides.{has_some, sides_across, sides_between}, specs.Sums.{AreAllowed, IsTurning}, proofs.Moved.{moved_more, moved_back}, proofs.Trades.{IsChange, IsTraded, traded}}
 
 -- sides that are asked for only where there is a reading
 across_if : (rs : List MeterReading) (b a : Option MeterReading) → across (side_if (has_some rs) b) (side_if (has_some rs) a) ≡ if_read rs (across b a)
