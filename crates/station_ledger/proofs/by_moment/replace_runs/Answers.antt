@@ -1,7 +1,7 @@
-use Rattle.std.proofs.Common.{ℕ, List, length, refl, sym, ◌≤◌, ◌∙◌}
+use Rattle.std.{proofs.Common.{ℕ, List, length, refl, sym, ◌≤◌, ◌∙◌, arith}, proofs.lemmas.List.nil_from_length}
 use Rattle.ledger_model.{specs.Board.Flowed, specs.Ranges.most_readings}
 use Rattle.reading_index.specs.Timed.{owned}
-use Rattle.station_ledger.{specs.Quarters.HoldsPairs, specs.Runs.{run_pairs, came_of, gap_of, gone_of, AreSwapped, AreToMove, HasRoomWithout}, proofs.Walks.empty, proofs.MomentRuns.{at_turn, turn_few, turn_held, turn_less, turn_more, turn_next, turn_of, turn_room, turn_smaller, turning_by, turning_end, turning_start, turning_work, IsTurn}, proofs.by_moment.replace_runs.Goals.{After-split_at, After-replace_run-moved}}
+use Rattle.station_ledger.{specs.Quarters.HoldsPairs, specs.Runs.{run_pairs, came_of, gap_of, gone_of, AreSwapped, AreToMove, HasRoomWithout}, proofs.MomentRuns.{at_turn, turn_few, turn_held, turn_less, turn_more, turn_next, turn_of, turn_room, turn_smaller, turning_by, turning_end, turning_start, turning_work, IsTurn}, proofs.by_moment.replace_runs.Goals.{After-split_at, After-replace_run-moved}}
 use Rattle.station_ledger.proofs.by_moment.replace_runs.Goals as goal
 
 pub loop-left-init : goal.loop-left-init
@@ -67,5 +67,5 @@ loop-left-preserved c =
 pub returns-clause-moved : goal.returns-clause-moved
 returns-clause-moved c = λ o seq rest a.
     let h = c.loop-left.invariant.moving o seq rest a in
-    let none = empty c.loop-left.left.now c.in_default.len_below in
+    let none = nil_from_length c.loop-left.left.now (omega (arith, c.in_default.len_below)) in
     record { moved = turning_end a h none; work = turning_work a h none }
