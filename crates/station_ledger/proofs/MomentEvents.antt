@@ -1,11 +1,11 @@
 -- The readings by moment once an event's came or went.
-use Rattle.std.{proofs.Common.{◌≡◌, ◌==◌, ℕ, ◌≤◌, true, false, not, List, [], Option, Some, None, is_some, length, refl, sym, ap, subst, ◌∙◌, ⊎_elim, arith, vec_capacity}, specs.List.flat_map, specs.Str.bytes_eq, specs.Ordering.eq_by_cmp, proofs.lemmas.Bool.Decides.nat_tests, proofs.lemmas.Bool.{cases_eq, cases_Bool}, proofs.lemmas.Slice.Eq.bytes_eq-Decides}
+use Rattle.std.{proofs.Common.{◌≡◌, ◌==◌, ℕ, ◌≤◌, true, false, not, List, [], Option, Some, None, is_some, length, refl, sym, ap, subst, ◌∙◌, ⊎_elim, arith, vec_capacity}, specs.List.flat_map, specs.Str.bytes_eq, specs.Ordering.eq_by_cmp, proofs.lemmas.Bool.Decides.nat_tests, proofs.lemmas.Bool.{cases_eq, cases_Bool}, proofs.lemmas.Slice.Eq.bytes_eq-Decides, proofs.lemmas.List.nil_from_length}
 use Rattle.transaction_map.{specs.Map.id_cmp, proofs.Rising.equal_ids}
-use Rattle.event_chain.{specs.declared.row.TableRow.TableRow, specs.Table.{IsFresh, Table, row_of}}
+use Rattle.event_chain.{specs.declared.row.TableRow.TableRow, specs.Table.{Table, row_of}}
 use Rattle.event_chain.specs.Table as table
 use Rattle.ledger_model.{specs.declared.reading.Direction.Direction, specs.Content.{Entry, live, live_of, transactions_of}, specs.InTime.in_time, specs.Limits.Bounds, specs.Ranges.most_event_readings}
 use Rattle.reading_index.{specs.Ranks.owner, specs.Timed.{Timed, AreRising, owned}}
-use Rattle.station_ledger.{specs.ByMoment.{live_readings, ranked, timed_of, AreByMoment, IsSlotGiven}, specs.declared.by_moment.ByMoment.ByMoment, proofs.MomentRanks.at, proofs.Moved.none_long}
+use Rattle.station_ledger.{specs.ByMoment.{live_readings, ranked, timed_of, AreByMoment, IsSlotGiven}, specs.declared.by_moment.ByMoment.ByMoment, proofs.MomentRanks.at}
 
 same_id : (u tx : List ℕ) → bytes_eq u tx ≡ true → u ≡ tx
 same_id u tx is = (bytes_eq-Decides u tx).0 is
@@ -18,7 +18,7 @@ pub not_tied : (u tx : List ℕ) → bytes_eq u tx ≡ false → eq_by_cmp id_cm
 not_tied u tx e = grind (arith, e, bytes_eq-Decides u tx, equal_ids u tx)
 
 none_alive : (es : List Entry) → not (length es == 0) ≡ false → es ≡ []
-none_alive es h = grind (arith, nat_tests, none_long es, h)
+none_alive es h = grind (arith, nat_tests, nil_from_length es, h)
 
 -- Nothing is under the slot of a transaction without a live event.
 pub none_timed : (slot : ℕ) (d : Direction) (tx : List ℕ) (es : List Entry) → live_of tx es ≡ [] → timed_of slot d tx es ≡ []
