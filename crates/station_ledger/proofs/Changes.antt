@@ -5,13 +5,6 @@ use Rattle.ledger_model.{specs.declared.order.Order.Order, specs.declared.order.
 use Rattle.event_chain.{specs.Chains.{Chained, stored}, specs.Room.readings_under, specs.Sides.{AreSides, side_if}, specs.declared.around.Sides.Sides}
 use Rattle.station_ledger.{specs.declared.pairs.Way.Way, specs.declared.pairs.Way.TheVariants.{Coming, Going}, specs.Moved.IsMoved, specs.Quarters.readings_at, specs.Runs.by_way, specs.Spent.most_at, specs.Sides.{has_some, sides_across, sides_between}, specs.Sums.{AreAllowed, IsTurning}, proofs.Moved.{moved_more, moved_back}, proofs.Trades.{IsChange, IsTraded, traded}}
 
--- sides that are asked for only where there is a reading
-across_if : (rs : List MeterReading) (b a : Option MeterReading) → across (side_if (has_some rs) b) (side_if (has_some rs) a) ≡ if_read rs (across b a)
-across_if rs b a = grind arith
-
-between_if : (rs : List MeterReading) (b a : Option MeterReading) → pairs_between (side_if (has_some rs) b) rs (side_if (has_some rs) a) ≡ if_read rs (pairs_between b rs a)
-between_if rs b a = grind arith
-
 most_le : (n : ℕ) → most_for n ≤ n + 2
 most_le zero = omega arith
 most_le (suc n) = omega arith
@@ -19,13 +12,13 @@ most_le (suc n) = omega arith
 -- the pairs of the event that go and come, by its readings; it is known in which directions there are any
 across_then : {key : KeyName} {es : List Entry} (place : ByDirection Sides) (event : Stored) (d : Direction) → AreSides d (has_some (toward d event.event.readings)) key es (in_direction d place)
     → sides_across place d ≡ gone_by d (before_key key es) (key, event) (behind_key key es)
-across_then place event d is = (λ i. across (is.before i) (is.behind i)) ∙ across_if (toward d event.event.readings) _ _
+across_then place event d is = (λ i. across (is.before i) (is.behind i)) ∙ grind arith
 
 between_then : {key : KeyName} {es : List Entry} (chains : Chained) (place : ByDirection Sides) (event : Stored) (d : Direction)
     → AreSides d (has_some (toward d event.event.readings)) key es (in_direction d place)
     → readings_at d chains key ≡ toward d event.event.readings
     → sides_between place chains key d ≡ came_by d (before_key key es) (key, event) (behind_key key es)
-between_then chains place event d is own = (λ i. pairs_between (is.before i) (own i) (is.behind i)) ∙ between_if (toward d event.event.readings) _ _
+between_then chains place event d is own = (λ i. pairs_between (is.before i) (own i) (is.behind i)) ∙ grind arith
 
 -- at most so many
 few_each : {key : KeyName} {es : List Entry} (chains : Chained) (place : ByDirection Sides) (event : Stored) (d : Direction)

@@ -129,58 +129,35 @@ module _ (old new : Chained) (key : KeyName) where
 pub some_voided : (old : Chained) (key : KeyName) → IsFound (finite.get old.events key) true → 0 < voided_in old
 some_voided old key f = omega (arith, voided_restored (stored old) key f.event (finite.entries_sorted old.events) (listed old old key (Some f.event) f.is) f.marked_is)
 
--- The sums depend only on the live events.
-own_pairs : Order → Direction → List ℕ → List Entry → List (MeterReading × MeterReading)
-own_pairs order d tx l = followed (in_order order (λ r. r.moment) (flat_map (λ e. toward d e.1.event.readings) (own_events tx l)))
-
-at_over : ℕ → List Entry → List (List ℕ)
-at_over n l = filter (λ tx. first_or_zero (filter_map (λ e. e.1.event.evse) (own_events tx l)) == n) (transactions_of l)
-
--- So do the readings by moment.
+-- The sums depend only on the live events, and so do the readings by moment.
 timed_same : (limits : Bounds) (es new : List Entry) (b : Option ByMoment) → live new ≡ live es → IfSome b (AreByMoment limits es) → IfSome b (AreByMoment limits new)
 timed_same limits es new None same h = tt
 timed_same limits es new (Some b) same h = record {
-  slots = record {
-    each = λ tx. h.slots.each tx ∙ ap (λ l. not (length (own_events tx l) == 0)) (sym same);
-    number = h.slots.number ∙ ap (λ l. length (transactions_of l)) (sym same);
-    room = h.slots.room;
-  };
-  held = λ d tx row at. h.held d tx row at ∙ ap (λ l. in_time (λ t. t.0) (flat_map (ranked row.slot d) (own_events tx l))) (sym same);
+  slots = record { each = λ tx. rw same (h.slots.each tx); number = rw same h.slots.number; room = h.slots.room };
+  held = λ d tx row at. rw same (h.held d tx row at);
   spare = h.spare;
   in_order = h.in_order;
-  few = subst (λ l. length b.index.entries ≤ sum_by (λ (e : Entry). length e.1.event.readings) l) (sym same) h.few;
+  few = rw same h.few;
   room = h.room;
   list_room = h.list_room;
 }
 
 pub summed_same : {limits : Bounds} {es : List Entry} (new : List Entry) {sums : Sums} → live new ≡ live es → AreSummed limits es sums → AreSummed limits new sums
-unfolding own_pairs at_over
 summed_same {limits = limits} {es = es} new {sums = sums} same s = record {
   standing = record {
-    each = λ tx. s.standing.each tx ∙ sym (kept_same (order_in sums) tx es new (ap (own_events tx) same));
+    each = λ tx. rw same (s.standing.each tx);
     rising = s.standing.rising;
-    number = s.standing.number ∙ ap (λ l. length (transactions_of l)) (sym same);
+    number = rw same s.standing.number;
     room = s.standing.room;
   };
-  at_evses = record {
-    all = s.at_evses.all;
-    each = λ n le. s.at_evses.each n le ∙ ap (λ l. record {
-      transactions = length (at_over n l);
-      energy =
-          in_each (λ d. energy_over (flat_map (λ tx. own_pairs (order_in sums) d tx l) (at_over n l)));
-    }) (sym same);
-  };
-  by_quarter = record {
-    rows = s.by_quarter.rows ∙ ap (λ l. rows_of (both_quartered sums.period (λ d. flat_map (λ tx. own_pairs (order_in sums) d tx l) (transactions_of l)))) (sym same);
-    room = s.by_quarter.room;
-  };
-  energies_are = λ d. s.energies_are d ∙ ap (λ l. energy_over (flat_map (λ tx. own_pairs (order_in sums) d tx l) (transactions_of l))) (sym same);
+  at_evses = record { all = s.at_evses.all; each = λ n le. rw same (s.at_evses.each n le) };
+  by_quarter = record { rows = rw same s.by_quarter.rows; room = s.by_quarter.room };
+  energies_are = λ d. rw same (s.energies_are d);
   counts = record {
-    events = s.counts.events ∙ ap length (sym same);
-    transactions = s.counts.transactions ∙ ap (λ l. length (transactions_of l)) (sym same);
-    complete = s.counts.complete
-        ∙ ap (λ l. count_by (λ tx. starts_and_ends (map (λ e. e.1.event.kind) (own_events tx l)) && (missing (map (λ e. e.0.seq) (own_events tx l)) == 0)) (transactions_of l)) (sym same);
-    missing_are = s.counts.missing_are ∙ ap (λ l. sum_by (λ tx. missing (map (λ e. e.0.seq) (own_events tx l))) (transactions_of l)) (sym same);
+    events = rw same s.counts.events;
+    transactions = rw same s.counts.transactions;
+    complete = rw same s.counts.complete;
+    missing_are = rw same s.counts.missing_are;
   };
   timed = timed_same limits es new sums.by_moment same s.timed;
 }

@@ -53,10 +53,7 @@ module _ {limits : Bounds} {tx : List ℕ} {es new : List Entry} {b : ByMoment} 
       → AreByMoment limits new after
   by_moment_then after left each own cap e index_cap room number few = record {
     slots = record {
-      each = λ u. ⊎_elim
-          (λ (is : bytes_eq u tx ≡ true). subst (λ t. is_some (row_of t after.slots.rows) ≡ not (length (live_of t new) == 0)) (sym (same_id u tx is)) each)
-          (λ (other : bytes_eq u tx ≡ false). ap is_some (left u other ∙ given.others u other) ∙ timed.slots.each u ∙ ap (λ (l : List Entry). not (length l == 0)) (sym (turned.alive u other)))
-          (cases_Bool (bytes_eq u tx));
+      each = λ u. grind (arith, each, same_id u tx, left u, given.others u, timed.slots.each u, turned.alive u);
       number = number;
       room = cap ∙ given.capacity ∙ timed.slots.room;
     };

@@ -57,14 +57,10 @@ module _ {limits : Bounds} {chains : Chained} {changes : ℕ} {sums : Sums} (k :
     kept_next = reached_next limits (content_in chains changes) changes m command refl may k.reached a
 
     pub can_do : IsReady chains command → CanDo command chains sums
-    can_do ready = record {
-      ready = ready;
-      before = kept_allowed;
-      after = subst (λ b. AreAllowed (order_in sums) b (finite.entries (events_after chains.events command))) (sym k.limits_are)
-          (allowed (order_in sums) limits k.few_transactions k.few_events k.few_readings m (record { events = events_after chains.events command; changes = m }) kept_next);
-      summed = kept_summed;
-      voided = k.voided_are;
-    }
+    can_do ready =
+        let then = allowed (order_in sums) limits k.few_transactions k.few_events k.few_readings m (record { events = events_after chains.events command; changes = m }) kept_next in
+        let after = subst (λ b. AreAllowed (order_in sums) b (finite.entries (events_after chains.events command))) (sym k.limits_are) then in
+        assumption (ready, kept_allowed, after, kept_summed)
 
     pub kept_after : {new : Chained} {next : Sums} → IsDone command chains new sums next → IsKept limits new m next
     kept_after {new} {next} done =
