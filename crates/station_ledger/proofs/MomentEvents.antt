@@ -10,9 +10,6 @@ use Rattle.station_ledger.{specs.ByMoment.{live_readings, ranked, timed_of, AreB
 same_id : (u tx : List ℕ) → bytes_eq u tx ≡ true → u ≡ tx
 same_id u tx is = (bytes_eq-Decides u tx).0 is
 
-not_same : (u tx : List ℕ) → bytes_eq u tx ≡ false → u ≡ tx → ⊥
-not_same u tx apart same = grind (arith, apart, bytes_eq-Decides u tx, same)
-
 -- Ids that are different do not tie.
 pub not_tied : (u tx : List ℕ) → bytes_eq u tx ≡ false → eq_by_cmp id_cmp u tx ≡ false
 not_tied u tx e = grind (arith, e, bytes_eq-Decides u tx, equal_ids u tx)
@@ -63,7 +60,7 @@ module _ {limits : Bounds} {tx : List ℕ} {es new : List Entry} {b : ByMoment} 
         subst (λ s. owned (owner s d) next ≡ timed_of s d u new) at_slot (turned.own d ∙ ap (λ t. timed_of slot d t new) (sym (same_id u tx is))))
         (λ (other : bytes_eq u tx ≡ false).
         let now : row_of u slots.rows ≡ Some row = sym (left u other) ∙ there in
-        turned.others d row.slot (λ same. not_same u tx other (apart u tx row given.row now given.there (sym same ∙ sym given.is)))
+        turned.others d row.slot (λ same. let one = apart u tx row given.row now given.there (sym same ∙ sym given.is) in grind (arith, other, bytes_eq-Decides u tx, one))
         ∙ timed.held d u row (sym (given.others u other) ∙ now) ∙ sym (turned.same row.slot d u other))
         (cases_Bool (bytes_eq u tx));
     spare = λ d s fresh. ap (owned (owner s d)) e ∙ ⊎_elim

@@ -185,11 +185,8 @@ module _ (slot : ℕ) (d : Direction) (e : Entry) where
 
 -- An event's readings have other ranks than those of other events.
 pub other_apart : (seq : ℕ) (own : Bool) (x : Timed) (ts : List Timed) → own_timed seq x ≡ own → AllByRecursion (λ t. own_timed seq t ≡ not own) ts → AreApart x.0 ts
-other_apart seq own x ts is = each_then (λ t. own_timed seq t ≡ not own) (λ t. t.0 ≡ x.0 → ⊥) (λ t other same. never own (sym is ∙ ap (λ n. eqb (number_of n) seq) (sym same) ∙ other)) ts
-  where
-    never : (b : Bool) → b ≡ not b → ⊥
-    never true h = cc
-    never false h = cc
+other_apart seq own x ts is = each_then (λ t. own_timed seq t ≡ not own) (λ t. t.0 ≡ x.0 → ⊥)
+    (λ t other same. let both : own ≡ not own = sym is ∙ ap (λ n. eqb (number_of n) seq) (sym same) ∙ other in grind (arith, both)) ts
 
 all_apart : (seq : ℕ) (own : Bool) (xs ts : List Timed) → AllByRecursion (λ t. own_timed seq t ≡ own) xs → AllByRecursion (λ t. own_timed seq t ≡ not own) ts
     → AllByRecursion (λ x. AreApart x.0 ts) xs

@@ -64,14 +64,10 @@ fits-first : (x : Timed) (us : List Timed) → AreAbove x.0 us → fits (first_o
 fits-first x [] h = refl
 fits-first x (u ∷ us) h = lt-ltb x.0 u.0 h.0
 
--- How many pairs readings in a row make.
-pairs-length : (t : Timed) (ts : List Timed) → length (pairs_among (t ∷ ts)) ≡ length ts
-pairs-length t ts = followed_fewer t.1 (bare ts) ∙ length-map ts (λ (u : Timed). u.1)
-
 -- Fewer than readings, if there may be a reading.
 pairs-fewer : (ts : List Timed) (n : ℕ) → length ts ≤ n → 1 ≤ n → length (pairs_among ts) + 1 ≤ n
 pairs-fewer [] n le some = omega (arith, le, some)
-pairs-fewer (t ∷ ts) n le some = omega (arith, pairs-length t ts, le)
+pairs-fewer (t ∷ ts) n le some = omega (arith, followed_fewer t.1 (bare ts), length-map ts (λ (u : Timed). u.1), le)
 
 abbrev rise : Pair → ℕ
 rise p = (difference p).up
@@ -119,11 +115,8 @@ module _ {way : Way} {seq : ℕ} {before after : Option MeterReading} {run now n
       ap (λ l. runs (own_timed seq) (r.front ++ (l ++ r.back))) r.run_is ∙ one_run_more (own_timed seq) r.front r.first r.more r.back r.last_fails mine r.first_fails
 
   -- how many readings go and come
-  pub gone_few : length (gone_of way run) ≤ length run
-  gone_few = omega (arith, length-parts way run)
-
-  pub came_few : length (came_of way run) ≤ length run
-  came_few = omega (arith, length-parts way run)
+  pub parts_few : (length (gone_of way run) ≤ length run) × (length (came_of way run) ≤ length run)
+  parts_few = omega (arith, length-parts way run)
 
   pub made_few : (ts : List Timed) → length (made ts) ≤ length ts + 1
   made_few ts = omega (arith, few_between before (bare ts) after, length-map ts (λ (t : Timed). t.1))
@@ -338,7 +331,7 @@ module _ {way : Way} {seq : ℕ} {period : Periods} {d : Direction} {before afte
       record {
         rows = s.added.quarters.rows ∙ ap (rows_with (quartered period d (made r (came_of way run)))) (gone_left period d r rest t h.rows s.taken.quarters)
             ∙ made_with (quartered period d (made r (came_of way run))) (beside r period d rest) ∙ sym (all_rows r period d rest (came_of way run) r.next_is);
-        sums = omega (arith, h.sums, s.taken.sum.up, s.taken.sum.down, s.added.sum.up, s.added.sum.down, gone_few r, came_few r, long, run_some r);
+        sums = omega (arith, h.sums, s.taken.sum.up, s.taken.sum.down, s.added.sum.up, s.added.sum.down, parts_few r, long, run_some r);
       }
 
 -- What is known of an event's readings while some are left.
@@ -399,10 +392,10 @@ module _ {others left run next_left : List Timed} {before behind : Option Timed}
       all_long = ap length h.split ∙ length-append h.done left
 
       gone_small : length (run_pairs gap (gone_of way run)) ≤ length all + 1
-      gone_small = omega (arith, made_few the_run (gone_of way run), gone_few the_run, all_long, long_left)
+      gone_small = omega (arith, made_few the_run (gone_of way run), parts_few the_run, all_long, long_left)
 
       came_small : length (run_pairs gap (came_of way run)) ≤ length all + 1
-      came_small = omega (arith, made_few the_run (came_of way run), came_few the_run, all_long, long_left)
+      came_small = omega (arith, made_few the_run (came_of way run), parts_few the_run, all_long, long_left)
 
       pub turn_smaller : length next_left < length left
       turn_smaller = omega (arith, long_left, run_some the_run)
@@ -422,7 +415,7 @@ module _ {others left run next_left : List Timed} {before behind : Option Timed}
 
       pub turn_room : HasRoomWithout period d (run_pairs gap (gone_of way run)) (length (run_pairs gap (came_of way run))) t
       turn_room gone taken =
-          let few = all_few the_run (came_of way run) (came_few the_run) in let n = whole way the_run in let left_rows = gone_left period d the_run rest t h.moving.rows taken in
+          let few = all_few the_run (came_of way run) (parts_few the_run).1 in let n = whole way the_run in let left_rows = gone_left period d the_run rest t h.moving.rows taken in
           has_room period d (fa the_run ++ fb the_run) rest (length (run_pairs gap (came_of way run))) (most_readings + 2 * most_event_readings) _ left_rows
           (omega (arith, few, n, all_long, long_left, a.room, cap, taken.capacity)) (omega (arith, a.few_rows, cap, taken.capacity)) few_now (omega (arith, came_small, a.small))
         where

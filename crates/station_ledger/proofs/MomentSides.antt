@@ -188,34 +188,22 @@ module _ {way : Way} {less more : List Entry} {chains : Chained} {key : KeyName}
     split : IsSplit (all d es) (pairs_among ts) (others d)
     pub whole : IsSide d es
 
-  parts_less : (d : Direction) → AreParts d (standing d) less
-  parts_less d = record {
-    pairs = pairs_standing d;
-    split = split_less d;
-    whole = record {
-      count = all_grow d;
-      sum = few_station Moment d chains.limits less is.small;
-    };
-  }
-
-  parts_more : (d : Direction) → AreParts d (together d) more
-  parts_more d = record {
+  -- then, and before its readings come or go
+  pub parts_will : (w : Way) (d : Direction) → AreParts d (put_each (came_of w (its d)) (standing d)) (by_way w more less)
+  parts_will Coming d = record {
     pairs = pairs_together d;
     split = split_more d;
-    whole = record {
-      count = omega arith;
-      sum = few_station Moment d chains.limits more is.large;
-    };
+    whole = record { count = omega arith; sum = few_station Moment d chains.limits more is.large };
+  }
+  parts_will Going d = record {
+    pairs = pairs_standing d;
+    split = split_less d;
+    whole = record { count = all_grow d; sum = few_station Moment d chains.limits less is.small };
   }
 
-  -- before its readings come or go, and then
   pub parts_was : (w : Way) (d : Direction) → AreParts d (put_each (gone_of w (its d)) (standing d)) (by_way w less more)
-  parts_was Coming d = parts_less d
-  parts_was Going d = parts_more d
-
-  pub parts_will : (w : Way) (d : Direction) → AreParts d (put_each (came_of w (its d)) (standing d)) (by_way w more less)
-  parts_will Coming d = parts_more d
-  parts_will Going d = parts_less d
+  parts_was Coming d = parts_will Going d
+  parts_was Going d = parts_will Coming d
 
   -- an index with its readings of a direction put in, or taken out
   pub have_place : (w : Way) (d : Direction) (index : TimedReadings)

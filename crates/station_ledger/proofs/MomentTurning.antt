@@ -1,12 +1,12 @@
 -- One live event that comes or goes: its readings come to those by moment, or go from them.
-use Rattle.std.{proofs.Common.{◌≡◌, ◌==◌, ℕ, ◌+◌, ◌<◌, ◌≤◌, false, cond, not, List, ◌∷◌, Option, None, Some, is_some, length, refl, sym, ap, subst, ◌∙◌, ⊎_elim, arith, length-append, vec_capacity}, specs.Str.bytes_eq, specs.Cmp.eq_by_cmp_equiv, proofs.lemmas.Bool.{cases_eq, ne_eqb}, proofs.lemmas.Bool.Decides.nat_tests}
+use Rattle.std.{proofs.Common.{◌≡◌, ◌==◌, ℕ, ◌+◌, ◌<◌, ◌≤◌, false, cond, not, List, ◌∷◌, Option, None, Some, is_some, length, sym, ap, subst, ◌∙◌, ⊎_elim, arith, length-append, vec_capacity}, specs.Str.bytes_eq, specs.Cmp.eq_by_cmp_equiv, proofs.lemmas.Bool.{cases_eq, ne_eqb}, proofs.lemmas.Bool.Decides.nat_tests}
 use Rattle.event_chain.{specs.Chains.{Chained, stored}, specs.Table.{Table as Slots, row_of, TxRow, without_row}, specs.declared.row.TableRow.TableRow}
 use Rattle.event_chain.specs.Table as table
 use Rattle.ledger_model.{proofs.Directions.each_way, specs.Periods.Periods, specs.ByDirection.in_direction, specs.Content.{Entry, live, live_of, transactions_of, has_transaction}, specs.declared.by_direction.ByDirection.ByDirection, specs.declared.order.Order.TheVariants.Moment, specs.declared.reading.Direction.Direction, specs.declared.reading.Direction.TheVariants.{Import, Export}, specs.Deltas.{IsOneMore, before_key, behind_key, own_events}, specs.Key.KeyName, specs.Ranges.most_event_readings, proofs.Callers.{live_else, live_with, transactions_more}}
 use Rattle.energy_flow.specs.Flow.{Energy}
 use Rattle.quarter_table.specs.Table.{Table}
 use Rattle.reading_index.{specs.Ranks.owner, specs.Timed.{Timed, TimedReadings, owned}}
-use Rattle.station_ledger.{specs.ByMoment.{timed_of, AreByMoment, IsSlotGiven, live_readings, listed_of}, specs.declared.by_moment.ByMoment.ByMoment, specs.declared.by_moment.Moved.Moved, specs.Moved.IsExchanged, specs.Quarters.IsWork, specs.Spent.most_in_runs, specs.Sums.AreQuarterRows, proofs.MomentEvents.{IsTurned, by_moment_then, side_before, not_tied}, proofs.MomentLists.timed_else, proofs.MomentRanks.owner-apart, proofs.Moved.has_own, specs.declared.pairs.Way.Way, specs.declared.pairs.Way.TheVariants.{Coming, Going}, specs.Exchange.IsMove, specs.Runs.{by_way, AreMoved}, proofs.MomentSides.{IsLong, IsNext, IsStep, grown, have_place, its, long_both, parts_was, parts_will, room_more, rows_next, sides_apart, IsSummed, sums_moved, then, work_next}}
+use Rattle.station_ledger.{specs.ByMoment.{timed_of, AreByMoment, IsSlotGiven, live_readings, listed_of}, specs.declared.by_moment.ByMoment.ByMoment, specs.declared.by_moment.Moved.Moved, specs.Moved.IsExchanged, specs.Quarters.IsWork, specs.Spent.most_in_runs, specs.Sums.AreQuarterRows, proofs.MomentEvents.{IsTurned, by_moment_then, side_before, not_tied}, proofs.MomentLists.timed_else, proofs.MomentRanks.owner-apart, proofs.Moved.has_own, specs.declared.pairs.Way.Way, specs.declared.pairs.Way.TheVariants.{Coming, Going}, specs.Exchange.IsMove, specs.Runs.{by_way, AreMoved}, proofs.MomentSides.{IsNext, IsStep, grown, have_place, its, long_both, parts_was, parts_will, room_more, rows_next, sides_apart, IsSummed, sums_moved, then, work_next}}
 use Rattle.transaction_map.{proofs.Found.{found_out, length_out}, proofs.Rising.id_total}
 
 -- a transaction with this event has a live one
@@ -23,25 +23,10 @@ row_else tx u rows other = found_out u tx rows ∙ ap (λ b. cond b None (row_of
 rows_less : (tx : List ℕ) (rows : List TxRow) (row : TableRow) → table.AreRising rows → row_of tx rows ≡ Some row → length (without_row tx rows) + 1 ≡ length rows
 rows_less tx rows row rising there = omega (arith, length_out tx rows rising, ap (λ (o : Option TableRow). cond {A = ℕ} (is_some o) 1 0) there)
 
--- There is room for readings that come, of one direction and then of the other, and no more are in the index then than
--- live events have.
-room_first : (way : Way) (n i e r less more : ℕ) → n ≤ by_way way less more → i + e ≡ r → more ≡ less + r → way ≡ Coming → n + i ≤ more
-room_first way n i e r less more few both grown comes = grind arith
-
-room_second : (way : Way) (n mid i e r less more : ℕ) → n ≤ by_way way less more → IsLong way i n mid → i + e ≡ r → more ≡ less + r → way ≡ Coming → mid + e ≤ more
-room_second way n mid i e r less more few long both grown comes = grind arith
-
-few_both : (way : Way) (n mid last i e r less more : ℕ) → n ≤ by_way way less more → IsLong way i n mid → IsLong way e mid last → i + e ≡ r → more ≡ less + r → last ≤ by_way way more less
-few_both way n mid last i e r less more few one two both grown = grind arith
-
 -- What is the same with an event and without it is so before and then.
 same_then : (way : Way) {X Y : Type 0} (f : X → Y) (less more : X) → f more ≡ f less → f (by_way way more less) ≡ f (by_way way less more)
 same_then Coming f less more same = same
 same_then Going f less more same = sym same
-
-sum_then : (way : Way) (es fs : List Entry) → live_readings (by_way way es fs) ≡ by_way way (live_readings es) (live_readings fs)
-sum_then Coming es fs = refl
-sum_then Going es fs = refl
 
 -- What a transaction with a live event has among events with it.
 pub room_for_slot : (way : Way) {less more : List Entry} {chains : Chained} {key : KeyName} {b : ByMoment} {period : Periods} {t : Table}
@@ -82,9 +67,6 @@ module _ {way : Way} {less more : List Entry} {chains : Chained} {key : KeyName}
   lives : 0 < length (live_of key.tx more)
   lives = has_live less more (before_key key less) e (behind_key key less) is.one
 
-  few_was : length b.index.entries ≤ by_way way (live_readings less) (live_readings more)
-  few_was = subst (λ n. length b.index.entries ≤ n) (sum_then way less more) is.timed.few
-
   -- a transaction whose readings come has a live event
   pub some_live : way ≡ Coming → length (live_of key.tx (stored chains)) ≡ 0 → ⊥
   some_live comes none = absurd (omega (arith, lives, ap (λ w. length (live_of key.tx (by_way w more less))) (sym comes) ∙ ap (λ es. length (live_of key.tx es)) is.now_are ∙ none))
@@ -100,10 +82,8 @@ module _ {way : Way} {less more : List Entry} {chains : Chained} {key : KeyName}
       rows = is.rows.rows;
       room = is.rows.room;
       beyond = (parts_was is slot way Export).whole;
-      place = have_place is slot way Import b.index (side_before is.timed given Import) (λ comes.
-          let n = room_first way (length b.index.entries) (length (S Import)) (length (S Export)) (length is.event.event.readings)
-          (live_readings less) (live_readings more) few_was (long_both is slot) (grown is slot) comes in
-          omega (arith, n, room_more is slot, is.timed.room));
+      place = have_place is slot way Import b.index (side_before is.timed given Import)
+          (λ comes. grind (arith, comes, is.timed.few, long_both is slot, grown is slot, room_more is slot, is.timed.room));
     }
 
     module _ {l : List Timed} (l_is : l ≡ listed_of slot Import chains key) {index : TimedReadings} {u : Table} {w v : ℕ} {m : Moved}
@@ -120,10 +100,8 @@ module _ {way : Way} {less more : List Entry} {chains : Chained} {key : KeyName}
             rows = rows_next is slot first_step l_is first;
             room = first.room ∙ is.rows.room;
             beyond = (parts_will is slot way Import).whole;
-            place = have_place is slot way Export index at (λ comes.
-                let n = room_second way (length b.index.entries) (length index.entries) (length (S Import)) (length (S Export))
-                (length is.event.event.readings) (live_readings less) (live_readings more) few_was mid.long (long_both is slot) (grown is slot) comes in
-                omega (arith, n, room_more is slot, is.timed.room, first.capacity));
+            place = have_place is slot way Export index at
+                (λ comes. grind (arith, comes, is.timed.few, mid.long, long_both is slot, grown is slot, room_more is slot, is.timed.room, first.capacity));
           }
 
       module _ {k_of : List Timed} (k_is : k_of ≡ listed_of slot Export chains key) {last : TimedReadings} {x : Table} {y : ℕ}
@@ -162,10 +140,7 @@ module _ {way : Way} {less more : List Entry} {chains : Chained} {key : KeyName}
         }
 
         few_then : length last.entries ≤ live_readings will
-        few_then =
-            subst (λ n. length last.entries ≤ n) (sym (sum_then way more less))
-            (few_both way (length b.index.entries) (length index.entries) (length last.entries) (length (S Import)) (length (S Export))
-            (length is.event.event.readings) (live_readings less) (live_readings more) few_was mid.long end.long (long_both is slot) (grown is slot))
+        few_then = grind (arith, is.timed.few, mid.long, end.long, long_both is slot, grown is slot)
 
         slots_will : length slots.rows ≡ length (transactions_of (live will)) + cond (length (live_of key.tx will) == 0) 1 0
         slots_will = slots_then way key.tx less more _ lives (slots_more way is given) (transactions_more less more (before_key key less) e (behind_key key less) is.one)
