@@ -1,8 +1,8 @@
 -- What an event that comes or goes changes: the pairs of each direction that go and come, and what its transaction
 -- counts for.
-use Rattle.std.proofs.Common.{◌≡◌, ℕ, ◌+◌, ◌≤◌, zero, suc, List, Option, length, sym, ap, subst, ◌∙◌, arith}
-use Rattle.ledger_model.{specs.declared.order.Order.Order, specs.declared.order.Order.TheVariants.Sequence, specs.declared.reading.Direction.Direction, specs.declared.reading.Direction.TheVariants.{Import, Export}, specs.Content.{Entry, Stored}, specs.ByDirection.in_direction, specs.declared.by_direction.ByDirection.ByDirection, specs.Deltas.{across, pairs_between, before_key, behind_key, came_by, gone_by, kept_by, if_read, most_for}, specs.Energy.Pair, specs.Event.{MeterReading, toward}, specs.Key.KeyName, specs.Ranges.most_event_readings, proofs.Callers.{few_moved, few_toward}}
-use Rattle.event_chain.{specs.Chains.{Chained, stored}, specs.Room.readings_under, specs.Sides.{AreSides, side_if}, specs.declared.around.Sides.Sides}
+use Rattle.std.proofs.Common.{◌≡◌, ℕ, ◌+◌, ◌≤◌, zero, suc, List, length, sym, ap, subst, ◌∙◌, arith}
+use Rattle.ledger_model.{specs.declared.order.Order.Order, specs.declared.order.Order.TheVariants.Sequence, specs.declared.reading.Direction.Direction, specs.declared.reading.Direction.TheVariants.{Import, Export}, specs.Content.{Entry, Stored}, specs.ByDirection.in_direction, specs.declared.by_direction.ByDirection.ByDirection, specs.Deltas.{across, pairs_between, before_key, behind_key, came_by, gone_by, kept_by, most_for}, specs.Energy.Pair, specs.Event.toward, specs.Key.KeyName, specs.Ranges.most_event_readings, proofs.Callers.{few_moved, few_toward}}
+use Rattle.event_chain.{specs.Chains.{Chained, stored}, specs.Room.readings_under, specs.Sides.AreSides, specs.declared.around.Sides.Sides}
 use Rattle.station_ledger.{specs.declared.pairs.Way.Way, specs.declared.pairs.Way.TheVariants.{Coming, Going}, specs.Moved.IsMoved, specs.Quarters.readings_at, specs.Runs.by_way, specs.Spent.most_at, specs.Sides.{has_some, sides_across, sides_between}, specs.Sums.{AreAllowed, IsTurning}, proofs.Moved.{moved_more, moved_back}, proofs.Trades.{IsChange, IsTraded, traded}}
 
 most_le : (n : ℕ) → most_for n ≤ n + 2
@@ -28,9 +28,6 @@ few_each : {key : KeyName} {es : List Entry} (chains : Chained) (place : ByDirec
 few_each {key = key} {es = es} chains place event d is own =
     let gone = ap length (across_then place event d is) in let came = ap length (between_then chains place event d is own) in
     omega (arith, few_moved d (before_key key es) (key, event) (behind_key key es), gone, came, ap (λ rs. most_for (length rs)) own)
-
-few_of : (n : ℕ) (event : Stored) (d : Direction) → length event.event.readings ≤ most_event_readings → n ≤ most_for (length (toward d event.event.readings)) → n ≤ most_event_readings + 2
-few_of n event d few le = omega (arith, le, most_le (length (toward d event.event.readings)), few_toward d event.event.readings, few)
 
 -- The pairs of each direction that go with an event that comes or goes.
 abbrev pub gone_sides : Way → ByDirection Sides → Chained → KeyName → Direction → List Pair
@@ -60,7 +57,7 @@ module _ {tx : List ℕ} {es : List Entry} {chains : Chained} {key : KeyName} {p
       let own : (d : Direction) → readings_at d chains key ≡ toward d h.event.event.readings = λ d. ap (readings_under d) h.there in
       let few = λ (d : Direction). few_each chains place h.event d (h.sides d) (own d) in
       let each : (d : Direction) → length (sides_across place d) + length (sides_between place chains key d) ≤ most_event_readings + 2 =
-      λ d. few_of _ h.event d h.few (omega (arith, few d, ap (λ rs. most_for (length rs)) (own d))) in
+      λ d. let rs = toward d h.event.event.readings in omega (arith, few d, ap (λ rs. most_for (length rs)) (own d), most_le (length rs), few_toward d h.event.event.readings, h.few) in
       let long = λ (d : Direction). both_long way (sides_across place d) (sides_between place chains key d) in
       let across = λ (d : Direction). across_then place h.event d (h.sides d) in
       let between = λ (d : Direction). between_then chains place h.event d (h.sides d) (own d) in

@@ -1,10 +1,9 @@
 -- What each command leaves for the sums to do.
-use Rattle.std.{proofs.Common.{not, IfSome, ◌≡◌, ◌==◌, ◌&&◌, ℕ, ◌+◌, ◌<◌, ◌≤◌, Bool, true, false, cond, List, Option, Some, None, map, length, refl, sym, ap, subst, ◌∙◌, arith}, specs.List.{filter, filter_map, flat_map, count_by, sum_by}, specs.FinMap.find}
+use Rattle.std.{proofs.Common.{IfSome, ◌≡◌, ℕ, ◌+◌, ◌<◌, ◌≤◌, Bool, true, false, cond, List, Option, Some, None, length, refl, sym, ap, subst, ◌∙◌, arith}, specs.List.count_by, specs.FinMap.find}
 use Rattle.std.specs.FinMap as finite
-use Rattle.ledger_model.{specs.Entries.{IsRising, entries_after}, specs.declared.command.Command.Command, specs.declared.command.Command.TheVariants.{Deliver, Void, Restore, Erase}, specs.declared.order.Order.Order, specs.declared.order.Order.TheVariants.{Sequence, Moment}, specs.Complete.starts_and_ends, specs.Content.{Entry, Stored, live, transactions_of}, specs.ByDirection.{in_direction, in_each}, specs.declared.by_direction.ByDirection.ByDirection, specs.Deltas.{IsOneMore, before_key, behind_key, own_events, most_for}, specs.Energy.{energy_over, followed}, specs.Event.{EventContent, MeterReading, toward}, specs.declared.reading.Direction.Direction, specs.declared.reading.Direction.TheVariants.{Import, Export}, specs.Evse.first_or_zero, specs.Gaps.missing, specs.InTime.{in_order, in_time}, specs.Key.{KeyName, key_cmp}, specs.Limits.Bounds, specs.Ranges.most_event_readings, specs.Step.{marked, marked_at, events_after}, proofs.Callers.{delivered_more, restored_more, voided_less, erased_same, entries_after_is, voided_delivered, voided_restored, voided_voided, voided_erased}, proofs.LedgerLemmas.inserted_there}
+use Rattle.ledger_model.{specs.Entries.{IsRising, entries_after}, specs.declared.command.Command.Command, specs.declared.command.Command.TheVariants.{Deliver, Void, Restore, Erase}, specs.declared.order.Order.Order, specs.declared.order.Order.TheVariants.{Sequence, Moment}, specs.Content.{Entry, Stored, live}, specs.ByDirection.in_direction, specs.declared.by_direction.ByDirection.ByDirection, specs.Deltas.{IsOneMore, before_key, behind_key, most_for}, specs.Event.{EventContent, toward}, specs.declared.reading.Direction.Direction, specs.declared.reading.Direction.TheVariants.{Import, Export}, specs.Key.{KeyName, key_cmp}, specs.Limits.Bounds, specs.Ranges.most_event_readings, specs.Step.{marked, marked_at, events_after}, proofs.Callers.{delivered_more, restored_more, voided_less, erased_same, entries_after_is, voided_delivered, voided_restored, voided_voided, voided_erased}, proofs.LedgerLemmas.inserted_there}
 use Rattle.event_chain.{specs.declared.answers.Found.TheVariants.{Live, Voided}, specs.Chains.{Chained, stored}, specs.Room.{found_of, readings_under}, specs.Sides.AreSides, specs.declared.around.Sides.Sides}
-use Rattle.quarter_table.specs.Pairs.{rows_of}
-use Rattle.station_ledger.{specs.declared.by_moment.ByMoment.ByMoment, specs.declared.pairs.Way.Way, specs.declared.pairs.Way.TheVariants.{Coming, Going}, specs.declared.sums.Sums.Sums, specs.ByMoment.{AreByMoment, ranked}, specs.Kept.{CanDo, voided_in}, specs.Quarters.{HasEvent, both_quartered, readings_at}, specs.Sides.has_some, specs.Spent.{most_at, most_in_runs, most_spent, most_turned, most_under}, specs.Sums.{AreAllowed, AreSummed, AreTurning, order_in}, proofs.Moved.kept_same, specs.Runs.by_way}
+use Rattle.station_ledger.{specs.declared.by_moment.ByMoment.ByMoment, specs.declared.pairs.Way.Way, specs.declared.pairs.Way.TheVariants.{Coming, Going}, specs.declared.sums.Sums.Sums, specs.ByMoment.AreByMoment, specs.Kept.{CanDo, voided_in}, specs.Quarters.{HasEvent, readings_at}, specs.Sides.has_some, specs.Spent.{most_at, most_in_runs, most_spent, most_turned, most_under}, specs.Sums.{AreAllowed, AreSummed, AreTurning, order_in}, specs.Runs.by_way}
 
 -- an event that was found
 pub record IsFound (o : Option Stored) (voided : Bool) : Type 0 where

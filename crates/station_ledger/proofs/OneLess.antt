@@ -1,5 +1,5 @@
 -- What is kept of a transaction, when one more live event comes.
-use Rattle.std.{proofs.lemmas.Bool.Decides.nat_tests, proofs.Common.{◌≡◌, ℕ, ◌+◌, ◌<◌, ◌≤◌, Bool, true, false, List, [], ◌∷◌, ◌++◌, Option, None, Some, IfSome, length, map, slice_get, unwrap_or, refl, sym, ap, ◌∙◌, subst, arith, length-append, inl, inr, ◌⊎◌}, specs.List.filter_map, proofs.lemmas.List.{length-map, map-append}}
+use Rattle.std.{proofs.lemmas.Bool.Decides.nat_tests, proofs.Common.{◌≡◌, ℕ, ◌+◌, ◌<◌, ◌≤◌, true, false, List, [], ◌∷◌, ◌++◌, Option, None, Some, IfSome, length, map, slice_get, unwrap_or, option_map, refl, sym, ap, ◌∙◌, subst, arith, length-append, inl, inr, ◌⊎◌}, specs.List.filter_map, proofs.lemmas.List.{length-map, map-append}}
 use Rattle.energy_flow.specs.Flow.{Energy}
 use Rattle.ledger_model.{specs.declared.by_direction.ByDirection.ByDirection, specs.Board.last_or_zero, specs.BoardLaws.AreRising, specs.Content.{Entry, Stored, live_of}, specs.Deltas.{own_events, before_key, behind_key}, specs.Event.EventContent, specs.Evse.first_or_zero, specs.Gaps.{numbers_of, missing}, specs.Key.KeyName, proofs.Callers.{live_with, live_without}, proofs.GapLemmas.missing-fills}
 use Rattle.event_chain.{specs.Chains.{Chained, stored}, specs.declared.around.Sides.Sides}
@@ -108,11 +108,5 @@ all_less way es chains key place turning up tx seq tx_is seq_is energy None kept
 all_less Coming es chains key place come up tx seq tx_is seq_is energy (Some was) kept event has none =
     subst (λ t. IsOneLess was t seq (stored chains)) (sym tx_is) (subst (λ n. IsOneLess was key.tx n (stored chains)) (sym seq_is)
     (one_less es chains key place come (ap evse_in (sym come.there ∙ has) ∙ none) up energy was (kept ∙ ap (λ t. kept_with energy t es) tx_is)))
-all_less Going es chains key place go up tx seq tx_is seq_is energy (Some was) kept event has none = absurd (live (ap voided_in (sym go.there ∙ has)))
-  where
-    voided_in : Option Stored → Bool
-    voided_in None = false
-    voided_in (Some s) = s.voided
-
-    live : true ≡ false → ⊥
-    live f = cc
+all_less Going es chains key place go up tx seq tx_is seq_is energy (Some was) kept event has none = absurd
+    (let e : true ≡ false = ap (λ (o : Option Stored). unwrap_or (option_map (λ (s : Stored). s.voided) o) true) (sym go.there ∙ has) in cc)

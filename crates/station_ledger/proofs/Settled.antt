@@ -3,8 +3,8 @@ use Rattle.std.{proofs.Common.{◌≡◌, ℕ, List, Option, IfSome, sym, ap, su
 use Rattle.energy_flow.specs.Flow.{Energy, plus}
 use Rattle.ledger_model.{specs.ByDirection.{in_direction, in_each, plus_flows, minus_flows}, proofs.Directions.each_is, specs.declared.by_direction.ByDirection.ByDirection, specs.declared.reading.Direction.Direction, specs.declared.reading.Direction.TheVariants.{Import, Export}, specs.Content.Entry, specs.Energy.{energy_by, energy_of_by, flows_of_by}, specs.Key.KeyName, specs.Limits.Bounds}
 use Rattle.event_chain.{specs.Chains.{Chained, stored}, specs.declared.around.Sides.Sides}
-use Rattle.transaction_map.specs.Map.{Mapped, id_cmp}
-use Rattle.station_ledger.{specs.declared.pairs.Way.Way, specs.declared.standing.Standing.Standing, specs.declared.sums.Sums.Sums, specs.ByMoment.AreByMoment, specs.Moved.{CanExchange, IsExchanged, IsMoved, flows_in}, specs.Standing.{kept_of, kept_with}, specs.Sums.{AreAllowed, AreCounts, AreEvseSums, ArePairsMoved, AreQuarterRows, AreStanding, AreSummed, AreTurning, CanReplace, IsReplaced, order_in, order_of}, proofs.Bounded.{own_within, IsWithin}, proofs.Changes.turned_moved, proofs.Stands.{own_flow, was_kept, place, stands, room_at, counts_at, sums_stand, have_room, do_count, counts_stand}, proofs.Trades.exchanged_once}
+use Rattle.transaction_map.specs.Map.{id_cmp}
+use Rattle.station_ledger.{specs.declared.pairs.Way.Way, specs.declared.standing.Standing.Standing, specs.declared.sums.Sums.Sums, specs.ByMoment.AreByMoment, specs.Moved.{CanExchange, IsExchanged, IsMoved, flows_in}, specs.Standing.{kept_of, kept_with}, specs.Sums.{AreAllowed, AreCounts, AreEvseSums, ArePairsMoved, AreQuarterRows, AreStanding, AreSummed, AreTurning, CanReplace, IsReplaced, order_in, order_of}, proofs.Bounded.{own_within, IsWithin}, proofs.Changes.turned_moved, proofs.Moved.flow_in_kept, proofs.Stands.{place, stands, room_at, counts_at, sums_stand, have_room, do_count, counts_stand}, proofs.Trades.exchanged_once}
 
 -- The sums of events, in either order, and what they occur once the pairs of one event were moved, which comes or
 -- goes.
@@ -46,7 +46,7 @@ module _ {limits : Bounds} {tx : List ℕ} {es new : List Entry} {sums mid : Sum
   module _ {was : Option Standing} (was_is : was ≡ find id_cmp tx sums.kept.rows) {own : ByDirection Energy} (own_is : own ≡ flows_in was) where
     pub own_may : CanExchange own less more × (minus_flows (plus_flows own more) less ≡ flows_of_by (order_in sums) tx new)
     own_may = exchange (λ d. energy_of_by (order_in sums) d tx es) (λ d. energy_of_by (order_in sums) d tx new)
-        (λ d. ap (in_direction d) own_is ∙ own_flow (order_in sums) d limits es tx sums.kept was was_is x.summed.standing)
+        (λ d. ap (in_direction d) own_is ∙ ap (λ o. in_direction d (flows_in o)) (was_is ∙ x.summed.standing.each tx) ∙ flow_in_kept (order_in sums) d tx es)
         (λ d. own_within (order_in sums) d tx es) x.energies.own
 
     -- what is kept of it, in all sums
@@ -55,7 +55,7 @@ module _ {limits : Bounds} {tx : List ℕ} {es new : List Entry} {sums mid : Sum
       is_kept = is_with ∙ ap (λ e. kept_with e tx new) (left_is ∙ own_may.1)
 
       was_at : was ≡ kept_of (order_in sums) tx es
-      was_at = was_kept (order_in sums) limits tx es new x.moved x.before x.after was is is_kept sums.kept x.summed.standing was_is
+      was_at = was_is ∙ x.summed.standing.each tx
 
       kept_stands : AreStanding (order_in sums) limits es mid.kept
       kept_stands = subst (AreStanding (order_in sums) limits es) (sym x.pairs.kept) x.summed.standing
@@ -66,12 +66,9 @@ module _ {limits : Bounds} {tx : List ℕ} {es new : List Entry} {sums mid : Sum
       counts_were : AreCounts es mid.figures
       counts_were = subst (AreCounts es) (sym x.pairs.figures) x.summed.counts
 
-      was_found : was ≡ find id_cmp tx mid.kept.rows
-      was_found = was_is ∙ ap (λ (k : Mapped Standing). find id_cmp tx k.rows) (sym x.pairs.kept)
-
       pub can_replace : {energies : ByDirection Energy} → CanReplace tx (record { was = was; is = is }) (record mid { energies = energies })
       can_replace = record {
-        place = place (order_in sums) limits tx es new x.moved x.before x.after was is is_kept mid.kept kept_stands was_found;
+        place = place (order_in sums) limits tx es new x.moved x.before x.after was is is_kept mid.kept kept_stands;
         all = evses_stand.all;
         room_at = room_at (order_in sums) limits tx es new x.moved x.before x.after was is is_kept was_at mid.evses.items evses_stand;
         counts_at = counts_at (order_in sums) limits tx es new x.moved x.before x.after was is is_kept was_at mid.evses.items evses_stand;
@@ -86,7 +83,7 @@ module _ {limits : Bounds} {tx : List ℕ} {es new : List Entry} {sums mid : Sum
           let same = sym (ap order_of r.by_moment ∙ x.pairs.order) in
           record {
             standing = subst (λ o. AreStanding o limits new next.kept) same
-                (stands (order_in sums) limits tx es new x.moved x.before x.after was is is_kept mid.kept kept_stands was_found next.kept r.kept r.room);
+                (stands (order_in sums) limits tx es new x.moved x.before x.after was is is_kept mid.kept kept_stands next.kept r.kept r.room);
             at_evses = subst (λ o. AreEvseSums o new next.evses.items) same
                 (sums_stand (order_in sums) limits tx es new x.moved x.before x.after was is is_kept was_at mid.evses.items evses_stand next.evses.items r.all r.evses);
             by_quarter = subst (λ o. AreQuarterRows o limits new next.period next.quarters) same

@@ -17,10 +17,7 @@ apart_ids u tx e = grind (arith, e, bytes_eq-Decides u tx, (eq_by_cmp_equiv id_t
 module _ (order : Order) (limits : Bounds) (tx : List ℕ) (es new : List Entry) (moved : IsMoved order tx es new)
     (before : AreAllowed order limits es) (after : AreAllowed order limits new) (was is : Option Standing)
     (is_is : is ≡ kept_of order tx new) where
-  module _ (kept : Mapped Standing) (standing : AreStanding order limits es kept) (was_is : was ≡ find id_cmp tx kept.rows) where
-    pub was_kept : was ≡ kept_of order tx es
-    was_kept = was_is ∙ standing.each tx
-
+  module _ (kept : Mapped Standing) (standing : AreStanding order limits es kept) where
     pub place : find id_cmp tx kept.rows ≡ None → (is ≡ None → ⊥) → length kept.rows < kept.capacity
     place none some =
         let gone : one_in (kept_of order tx es) ≡ 0 = ap one_in (sym (standing.each tx) ∙ none) in
@@ -101,8 +98,3 @@ module _ (order : Order) (limits : Bounds) (tx : List ℕ) (es new : List Entry)
 
       pub counts_stand : (next : Figures) → next ≡ without_figures was (with_figures is f) → AreCounts new next
       counts_stand next same = grind arith
-
--- the energy of what was kept
-pub own_flow : (order : Order) (d : Direction) (limits : Bounds) (es : List Entry) (tx : List ℕ) (kept : Mapped Standing) (was : Option Standing)
-    → was ≡ find id_cmp tx kept.rows → AreStanding order limits es kept → in_direction d (flows_in was) ≡ energy_of_by order d tx es
-own_flow order d limits es tx kept was was_is standing = ap (λ o. in_direction d (flows_in o)) (was_is ∙ standing.each tx) ∙ flow_in_kept order d tx es
