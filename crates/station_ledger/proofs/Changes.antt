@@ -1,26 +1,9 @@
 -- What an event that comes or goes changes: the pairs of each direction that go and come, and what its transaction
 -- counts for.
-use Rattle.std.proofs.Common.{◌≡◌, ℕ, ◌+◌, ◌≤◌, zero, suc, List, Option, length, sym, ap, subst, ◌∙◌, arith}
-use Rattle.ledger_model.{specs.declared.order.Order.Order, specs.declared.order.Order.TheVariants.Sequence, specs.declared.reading.Direction.Direction, specs.declared.reading.Direction.TheVariants.{Import, Export}, specs.Content.{Entry, Stored}, specs.ByDirection.in_direction, specs.declared.by_direction.ByDirection.ByDirection, specs.Deltas.{across, pairs_between, before_key, behind_key, came_by, gone_by, kept_by, if_read, most_for}, specs.Energy.Pair, specs.Event.{MeterReading, toward}, specs.Key.KeyName, specs.Limits.Bounds, specs.Ranges.most_event_readings, proofs.Callers.{few_moved, few_toward}}
-use Rattle.event_chain.{specs.Chains.{Chained, stored}, specs.Room.readings_under, specs.Sides.{AreSides, side_if}, specs.declared.around.Sides.Sides}
-use Rattle.station_ledger.{specs.declared.pairs.Way.Way, specs.declared.pairs.Way.TheVariants.{Coming, Going}, specs.Moved.IsMoved, specs.Quarters.{both_length, readings_at}, specs.Runs.by_way, specs.Spent.most_at, specs.Sides.{has_some, sides_across, sides_between}, specs.Sums.{AreAllowed, IsTurning}, proofs.Moved.{moved_more, moved_back}, proofs.Trades.{IsTraded, traded}}
-
--- A change of a transaction's live events, with the pairs of each direction that go and come by sequence.
-pub record IsChange (limits : Bounds) (tx : List ℕ) (es new : List Entry) (gone came : Direction → List Pair) (most : ℕ) : Type 0 where
-  pub before : AreAllowed Sequence limits es
-  pub after : AreAllowed Sequence limits new
-  pub kept : Direction → List Pair
-  pub traded : (d : Direction) → IsTraded d tx es new (gone d) (came d) (kept d)
-  pub few_gone : (d : Direction) → length (gone d) ≤ most_event_readings + 2
-  pub few_came : (d : Direction) → length (came d) ≤ most_event_readings + 2
-  pub few : both_length gone + both_length came ≤ most
-
--- sides that are asked for only where there is a reading
-across_if : (rs : List MeterReading) (b a : Option MeterReading) → across (side_if (has_some rs) b) (side_if (has_some rs) a) ≡ if_read rs (across b a)
-across_if rs b a = grind arith
-
-between_if : (rs : List MeterReading) (b a : Option MeterReading) → pairs_between (side_if (has_some rs) b) rs (side_if (has_some rs) a) ≡ if_read rs (pairs_between b rs a)
-between_if rs b a = grind arith
+use Rattle.std.proofs.Common.{◌≡◌, ℕ, ◌+◌, ◌≤◌, zero, suc, List, length, sym, ap, subst, ◌∙◌, arith}
+use Rattle.ledger_model.{specs.declared.order.Order.Order, specs.declared.order.Order.TheVariants.Sequence, specs.declared.reading.Direction.Direction, specs.declared.reading.Direction.TheVariants.{Import, Export}, specs.Content.{Entry, Stored}, specs.ByDirection.in_direction, specs.declared.by_direction.ByDirection.ByDirection, specs.Deltas.{across, pairs_between, before_key, behind_key, came_by, gone_by, kept_by, most_for}, specs.Energy.Pair, specs.Event.toward, specs.Key.KeyName, specs.Ranges.most_event_readings, proofs.Callers.{few_moved, few_toward}}
+use Rattle.event_chain.{specs.Chains.{Chained, stored}, specs.Room.readings_under, specs.Sides.AreSides, specs.declared.around.Sides.Sides}
+use Rattle.station_ledger.{specs.declared.pairs.Way.Way, specs.declared.pairs.Way.TheVariants.{Coming, Going}, specs.Moved.IsMoved, specs.Quarters.readings_at, specs.Runs.by_way, specs.Spent.most_at, specs.Sides.{has_some, sides_across, sides_between}, specs.Sums.{AreAllowed, IsTurning}, proofs.Moved.{moved_more, moved_back}, proofs.Trades.{IsChange, IsTraded, traded}}
 
 most_le : (n : ℕ) → most_for n ≤ n + 2
 most_le zero = omega arith
@@ -29,13 +12,13 @@ most_le (suc n) = omega arith
 -- the pairs of the event that go and come, by its readings; it is known in which directions there are any
 across_then : {key : KeyName} {es : List Entry} (place : ByDirection Sides) (event : Stored) (d : Direction) → AreSides d (has_some (toward d event.event.readings)) key es (in_direction d place)
     → sides_across place d ≡ gone_by d (before_key key es) (key, event) (behind_key key es)
-across_then place event d is = (λ i. across (is.before i) (is.behind i)) ∙ across_if (toward d event.event.readings) _ _
+across_then place event d is = (λ i. across (is.before i) (is.behind i)) ∙ grind arith
 
 between_then : {key : KeyName} {es : List Entry} (chains : Chained) (place : ByDirection Sides) (event : Stored) (d : Direction)
     → AreSides d (has_some (toward d event.event.readings)) key es (in_direction d place)
     → readings_at d chains key ≡ toward d event.event.readings
     → sides_between place chains key d ≡ came_by d (before_key key es) (key, event) (behind_key key es)
-between_then chains place event d is own = (λ i. pairs_between (is.before i) (own i) (is.behind i)) ∙ between_if (toward d event.event.readings) _ _
+between_then chains place event d is own = (λ i. pairs_between (is.before i) (own i) (is.behind i)) ∙ grind arith
 
 -- at most so many
 few_each : {key : KeyName} {es : List Entry} (chains : Chained) (place : ByDirection Sides) (event : Stored) (d : Direction)
@@ -45,9 +28,6 @@ few_each : {key : KeyName} {es : List Entry} (chains : Chained) (place : ByDirec
 few_each {key = key} {es = es} chains place event d is own =
     let gone = ap length (across_then place event d is) in let came = ap length (between_then chains place event d is own) in
     omega (arith, few_moved d (before_key key es) (key, event) (behind_key key es), gone, came, ap (λ rs. most_for (length rs)) own)
-
-few_of : (n : ℕ) (event : Stored) (d : Direction) → length event.event.readings ≤ most_event_readings → n ≤ most_for (length (toward d event.event.readings)) → n ≤ most_event_readings + 2
-few_of n event d few le = omega (arith, le, most_le (length (toward d event.event.readings)), few_toward d event.event.readings, few)
 
 -- The pairs of each direction that go with an event that comes or goes.
 abbrev pub gone_sides : Way → ByDirection Sides → Chained → KeyName → Direction → List Pair
@@ -77,7 +57,7 @@ module _ {tx : List ℕ} {es : List Entry} {chains : Chained} {key : KeyName} {p
       let own : (d : Direction) → readings_at d chains key ≡ toward d h.event.event.readings = λ d. ap (readings_under d) h.there in
       let few = λ (d : Direction). few_each chains place h.event d (h.sides d) (own d) in
       let each : (d : Direction) → length (sides_across place d) + length (sides_between place chains key d) ≤ most_event_readings + 2 =
-      λ d. few_of _ h.event d h.few (omega (arith, few d, ap (λ rs. most_for (length rs)) (own d))) in
+      λ d. let rs = toward d h.event.event.readings in omega (arith, few d, ap (λ rs. most_for (length rs)) (own d), most_le (length rs), few_toward d h.event.event.readings, h.few) in
       let long = λ (d : Direction). both_long way (sides_across place d) (sides_between place chains key d) in
       let across = λ (d : Direction). across_then place h.event d (h.sides d) in
       let between = λ (d : Direction). between_then chains place h.event d (h.sides d) (own d) in

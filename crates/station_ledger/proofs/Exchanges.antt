@@ -1,8 +1,10 @@
 -- A live event that comes or goes where the readings are by sequence, and where they are by moment.
-use Rattle.std.{proofs.Common.{arith, ◌≡◌, Bool, true, false, List, [], ◌∷◌, ◌++◌, Option, Some, None, IfSome, refl, sym, ap, subst, ◌∙◌}, specs.List.filter, specs.Ordering.is_lt, specs.declared.cmp.Ordering.TheVariants.Less, proofs.lemmas.List.append-nil, proofs.lemmas.List.Elements.filter-append}
-use Rattle.ledger_model.{specs.declared.by_direction.ByDirection.ByDirection, specs.declared.order.Order.TheVariants.Moment, specs.Content.{Entry, Stored, live}, specs.Deltas.{IsOneMore, before_key, behind_key}, specs.Key.{KeyName, key_cmp}, specs.Limits.Bounds, proofs.Callers.turned}
+use Rattle.energy_flow.specs.Flow.{Energy}
+use Rattle.std.{proofs.Common.{arith, ◌≡◌, ◌≤◌, ℕ, Bool, true, false, List, [], ◌∷◌, ◌++◌, Option, Some, None, IfSome, refl, sym, ap, subst, ◌∙◌}, specs.List.filter, specs.Ordering.is_lt, specs.declared.cmp.Ordering.TheVariants.Less, proofs.lemmas.List.append-nil, proofs.lemmas.List.Elements.filter-append}
+use Rattle.ledger_model.{specs.declared.by_direction.ByDirection.ByDirection, specs.declared.order.Order.TheVariants.{Moment, Sequence}, specs.declared.reading.Direction.TheVariants.{Import, Export}, specs.Ranges.most_readings, specs.Content.{Entry, Stored, live}, specs.Deltas.{IsOneMore, before_key, behind_key}, specs.Key.{KeyName, key_cmp}, specs.Limits.Bounds, proofs.Callers.turned}
 use Rattle.event_chain.{specs.Chains.{Chained, stored}, specs.Room.readings_under, specs.declared.around.Sides.Sides}
-use Rattle.station_ledger.{specs.declared.by_moment.ByMoment.ByMoment, specs.declared.sums.Sums.Sums, specs.declared.pairs.Way.Way, specs.declared.pairs.Way.TheVariants.{Coming, Going}, specs.ByMoment.AreByMoment, specs.Exchange.IsMove, specs.Spent.most_at, specs.Runs.by_way, specs.Sums.{AreAllowed, AreQuarterRows, AreTurning, IsTurning, order_in, order_of}, proofs.Changes.{IsChange, came_sides, gone_sides, turned_pairs}}
+use Rattle.quarter_table.specs.Table.{Table}
+use Rattle.station_ledger.{specs.declared.by_moment.ByMoment.ByMoment, specs.declared.sums.Sums.Sums, specs.declared.pairs.Way.Way, specs.declared.pairs.Way.TheVariants.{Coming, Going}, specs.ByMoment.AreByMoment, specs.Exchange.IsMove, specs.Moved.IsExchanged, specs.Quarters.{DidMoveBoth, HasRoom, HoldsBoth, IsWork, both_length}, specs.Spent.{most_at, most_turned}, specs.Runs.by_way, specs.Sums.{AreAllowed, AreQuarterRows, AreTurning, IsTurning, order_in, order_of}, proofs.Changes.{came_sides, gone_sides, turned_pairs}, proofs.Trades.{IsChange, came_room, exchanged, gone_held, table_filled}}
 
 -- what passes a test passes it again
 again : {X : Type 0} (p : X → Bool) (xs : List X) → filter p (filter p xs) ≡ filter p xs
@@ -46,7 +48,7 @@ were Going es new = refl
 allowed_by : {limits : Bounds} {es : List Entry} (sums : Sums) {b : Option ByMoment} → sums.by_moment ≡ b → AreAllowed (order_in sums) limits es → AreAllowed (order_of b) limits es
 allowed_by {limits = limits} {es = es} sums is h = subst (λ o. AreAllowed (order_of o) limits es) is h
 
-pub rows_by : {limits : Bounds} {es : List Entry} (sums : Sums) {b : Option ByMoment} → sums.by_moment ≡ b
+rows_by : {limits : Bounds} {es : List Entry} (sums : Sums) {b : Option ByMoment} → sums.by_moment ≡ b
     → AreQuarterRows (order_in sums) limits es sums.period sums.quarters
     → AreQuarterRows (order_of b) limits es sums.period sums.quarters
 rows_by {limits = limits} {es = es} sums is h = subst (λ o. AreQuarterRows (order_of o) limits es sums.period sums.quarters) is h
@@ -70,7 +72,32 @@ module _ {way : Way} {es : List Entry} {chains : Chained} {key : KeyName} {place
       }
 
   -- or to readings by sequence, and it is known which
-  pub turned_in_turn : {to : Way} → sums.by_moment ≡ None → way ≡ to
-      → IsChange chains.limits key.tx es (stored chains) (gone_sides to place chains key) (came_sides to place chains key) (most_at chains key)
-  turned_in_turn {to = to} is way_is =
-      turned_pairs refl (allowed_by sums is h.allowed) (allowed_by sums is after) to (subst (λ w. IsTurning w es chains key place) way_is h.turning)
+  module _ {to : Way} (is : sums.by_moment ≡ None) (way_is : way ≡ to) where
+    change : IsChange chains.limits key.tx es (stored chains) (gone_sides to place chains key) (came_sides to place chains key) (most_at chains key)
+    change = turned_pairs refl (allowed_by sums is h.allowed) (allowed_by sums is after) to (subst (λ w. IsTurning w es chains key place) way_is h.turning)
+
+    rows : AreQuarterRows Sequence chains.limits es sums.period sums.quarters
+    rows = rows_by sums is h.summed.by_quarter
+
+    pub held : HoldsBoth sums.period (gone_sides to place chains key) sums.quarters
+    held = gone_held change rows
+
+    pub few_go : both_length (gone_sides to place chains key) ≤ most_readings
+    few_go = omega (arith, change.few_gone Import, change.few_gone Export)
+
+    pub few_come : both_length (came_sides to place chains key) ≤ most_readings
+    few_come = omega (arith, change.few_came Import, change.few_came Export)
+
+    module _ {left : Table} {w v : ℕ} {less : ByDirection Energy} (gone : DidMoveBoth Going sums.period (gone_sides to place chains key) sums.quarters left w v less) where
+      pub room_left : HasRoom (both_length (came_sides to place chains key)) left
+      room_left = came_room change rows gone.quarters
+
+      module _ {next : Table} {u : ℕ} {more : ByDirection Energy} (came : DidMoveBoth Coming sums.period (came_sides to place chains key) left next v u more) where
+        pub rows_then : AreQuarterRows (order_in sums) chains.limits (stored chains) sums.period next
+        rows_then = subst (λ b. AreQuarterRows (order_of b) chains.limits (stored chains) sums.period next) (sym is) (table_filled change rows gone.quarters came.quarters)
+
+        pub all_then : IsExchanged (order_in sums) key.tx es (stored chains) less more
+        all_then = subst (λ b. IsExchanged (order_of b) key.tx es (stored chains) less more) (sym is) (exchanged change gone.sums came.sums)
+
+        pub work_then : IsWork (most_turned (order_in sums) way chains key es) w u
+        work_then = subst (λ b. IsWork (most_turned (order_of b) way chains key es) w u) (sym is) (omega (arith, gone.work, came.work, change.few))

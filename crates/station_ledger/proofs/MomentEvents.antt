@@ -1,24 +1,21 @@
 -- The readings by moment once an event's came or went.
-use Rattle.std.{proofs.Common.{◌≡◌, ◌==◌, ℕ, ◌≤◌, true, false, not, List, [], Option, Some, None, is_some, length, refl, sym, ap, subst, ◌∙◌, ⊎_elim, arith, vec_capacity}, specs.List.flat_map, specs.Str.bytes_eq, specs.Ordering.eq_by_cmp, proofs.lemmas.Bool.Decides.nat_tests, proofs.lemmas.Bool.{cases_eq, cases_Bool}, proofs.lemmas.Slice.Eq.bytes_eq-Decides}
+use Rattle.std.{proofs.Common.{◌≡◌, ◌==◌, ℕ, ◌≤◌, true, false, not, List, [], Option, Some, None, is_some, length, refl, sym, ap, subst, ◌∙◌, ⊎_elim, arith, vec_capacity}, specs.List.flat_map, specs.Str.bytes_eq, specs.Ordering.eq_by_cmp, proofs.lemmas.Bool.Decides.nat_tests, proofs.lemmas.Bool.{cases_eq, cases_Bool}, proofs.lemmas.Slice.Eq.bytes_eq-Decides, proofs.lemmas.List.nil_from_length}
 use Rattle.transaction_map.{specs.Map.id_cmp, proofs.Rising.equal_ids}
-use Rattle.event_chain.{specs.declared.row.TableRow.TableRow, specs.Table.{IsFresh, Table, row_of}}
+use Rattle.event_chain.{specs.declared.row.TableRow.TableRow, specs.Table.{Table, row_of}}
 use Rattle.event_chain.specs.Table as table
 use Rattle.ledger_model.{specs.declared.reading.Direction.Direction, specs.Content.{Entry, live, live_of, transactions_of}, specs.InTime.in_time, specs.Limits.Bounds, specs.Ranges.most_event_readings}
 use Rattle.reading_index.{specs.Ranks.owner, specs.Timed.{Timed, AreRising, owned}}
-use Rattle.station_ledger.{specs.ByMoment.{live_readings, ranked, timed_of, AreByMoment, IsSlotGiven}, specs.declared.by_moment.ByMoment.ByMoment, proofs.MomentRanks.at, proofs.Moved.none_long}
+use Rattle.station_ledger.{specs.ByMoment.{live_readings, ranked, timed_of, AreByMoment, IsSlotGiven}, specs.declared.by_moment.ByMoment.ByMoment, proofs.MomentRanks.at}
 
 same_id : (u tx : List ℕ) → bytes_eq u tx ≡ true → u ≡ tx
 same_id u tx is = (bytes_eq-Decides u tx).0 is
-
-not_same : (u tx : List ℕ) → bytes_eq u tx ≡ false → u ≡ tx → ⊥
-not_same u tx apart same = grind (arith, apart, bytes_eq-Decides u tx, same)
 
 -- Ids that are different do not tie.
 pub not_tied : (u tx : List ℕ) → bytes_eq u tx ≡ false → eq_by_cmp id_cmp u tx ≡ false
 not_tied u tx e = grind (arith, e, bytes_eq-Decides u tx, equal_ids u tx)
 
 none_alive : (es : List Entry) → not (length es == 0) ≡ false → es ≡ []
-none_alive es h = grind (arith, nat_tests, none_long es, h)
+none_alive es h = grind (arith, nat_tests, nil_from_length es, h)
 
 -- Nothing is under the slot of a transaction without a live event.
 pub none_timed : (slot : ℕ) (d : Direction) (tx : List ℕ) (es : List Entry) → live_of tx es ≡ [] → timed_of slot d tx es ≡ []
@@ -53,10 +50,7 @@ module _ {limits : Bounds} {tx : List ℕ} {es new : List Entry} {b : ByMoment} 
       → AreByMoment limits new after
   by_moment_then after left each own cap e index_cap room number few = record {
     slots = record {
-      each = λ u. ⊎_elim
-          (λ (is : bytes_eq u tx ≡ true). subst (λ t. is_some (row_of t after.slots.rows) ≡ not (length (live_of t new) == 0)) (sym (same_id u tx is)) each)
-          (λ (other : bytes_eq u tx ≡ false). ap is_some (left u other ∙ given.others u other) ∙ timed.slots.each u ∙ ap (λ (l : List Entry). not (length l == 0)) (sym (turned.alive u other)))
-          (cases_Bool (bytes_eq u tx));
+      each = λ u. grind (arith, each, same_id u tx, left u, given.others u, timed.slots.each u, turned.alive u);
       number = number;
       room = cap ∙ given.capacity ∙ timed.slots.room;
     };
@@ -66,7 +60,7 @@ module _ {limits : Bounds} {tx : List ℕ} {es new : List Entry} {b : ByMoment} 
         subst (λ s. owned (owner s d) next ≡ timed_of s d u new) at_slot (turned.own d ∙ ap (λ t. timed_of slot d t new) (sym (same_id u tx is))))
         (λ (other : bytes_eq u tx ≡ false).
         let now : row_of u slots.rows ≡ Some row = sym (left u other) ∙ there in
-        turned.others d row.slot (λ same. not_same u tx other (apart u tx row given.row now given.there (sym same ∙ sym given.is)))
+        turned.others d row.slot (λ same. let one = apart u tx row given.row now given.there (sym same ∙ sym given.is) in grind (arith, other, bytes_eq-Decides u tx, one))
         ∙ timed.held d u row (sym (given.others u other) ∙ now) ∙ sym (turned.same row.slot d u other))
         (cases_Bool (bytes_eq u tx));
     spare = λ d s fresh. ap (owned (owner s d)) e ∙ ⊎_elim

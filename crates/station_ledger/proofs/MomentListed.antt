@@ -1,5 +1,5 @@
 -- The readings of an event listed by rank, one after the other.
-use Rattle.std.{proofs.Common.{◌≡◌, ℕ, zero, suc, ◌+◌, ◌^◌, ◌<◌, ◌≤◌, List, [], ◌∷◌, ◌++◌, length, take, drop, get_or, refl, sym, ap, subst, ◌∙◌, arith}, specs.List.AllByRecursion, proofs.lemmas.Bool.Decides.nat_tests}
+use Rattle.std.{proofs.Common.{◌≡◌, ℕ, zero, suc, ◌+◌, ◌^◌, ◌<◌, ◌≤◌, List, [], ◌∷◌, ◌++◌, length, take, drop, get_or, refl, sym, ap, ◌∙◌, arith}, specs.List.AllByRecursion, proofs.lemmas.Bool.Decides.nat_tests, proofs.lemmas.List.take-append-drop}
 use Rattle.ledger_model.{specs.Event.MeterReading, specs.InTime.put_in_time, specs.Ranges.most_event_readings, proofs.Callers.AreFrom}
 use Rattle.reading_index.{specs.Ranks.rank, specs.Timed.{Timed, from_on, in_front, AreAbove, AreRising, AreBelow}}
 use Rattle.station_ledger.{specs.ByMoment.ranked_from, proofs.Each.each_put, proofs.MomentLists.{from_after, none_has, AreApart, IsAfter}, proofs.MomentRanks.{at, length-put, put-ranked}}
@@ -10,31 +10,23 @@ cut k [] [] under from = (refl, refl)
 cut k [] (t ∷ ts) under from = grind (arith, nat_tests, cut k [] ts tt from.1)
 cut k (t ∷ ts) back under from = grind (arith, nat_tests, cut k ts back under.1 from)
 
-take_drop : (n : ℕ) (ts : List Timed) → take n ts ++ drop n ts ≡ ts
-take_drop zero ts = refl
-take_drop (suc n) [] = refl
-take_drop (suc n) (t ∷ ts) = ap (λ us. t ∷ us) (take_drop n ts)
-
 pub placed : (k n : ℕ) (ts : List Timed) → AreBelow k (take n ts) → AreFrom at k (drop n ts) → (take n ts ≡ in_front k ts) × (drop n ts ≡ from_on k ts)
 placed k n ts under from =
     let parts = cut k (take n ts) (drop n ts) under from in
-    (parts.0 ∙ ap (in_front k) (take_drop n ts), parts.1 ∙ ap (from_on k) (take_drop n ts))
+    (parts.0 ∙ ap (in_front k) (take-append-drop n ts), parts.1 ∙ ap (from_on k) (take-append-drop n ts))
 
 behind_at : (n p : ℕ) (ts : List Timed) (d : Timed) → AreAbove n ts → p < length ts → n < (get_or ts p d).0
 behind_at n p [] d behind lt = absurd (omega (arith, lt))
 behind_at n zero (t ∷ ts) d behind lt = behind.0
 behind_at n (suc p) (t ∷ ts) d behind lt = behind_at n p ts d behind.1 (omega (arith, lt))
 
-under_at : (k p : ℕ) (ts : List Timed) (d : Timed) → AreRising ts → p < length ts → (get_or ts p d).0 < k → AreBelow k (take (suc p) ts)
+-- Ranks rise, so that all in front of one that is below another are.
+pub under_at : (k p : ℕ) (ts : List Timed) (d : Timed) → AreRising ts → p < length ts → (get_or ts p d).0 < k → AreBelow k (take (suc p) ts)
 under_at k p [] d up lt below = absurd (omega (arith, lt))
 under_at k zero (t ∷ ts) d up lt below = (below, tt)
 under_at k (suc p) (t ∷ ts) d up lt below =
     let on = behind_at t.0 p ts d up.0 (omega (arith, lt)) in
     (omega (arith, on, below), under_at k p ts d up.1 (omega (arith, lt)) below)
-
--- Ranks rise, so that all in front of one that is below another are.
-pub under-to : (k n : ℕ) (ts : List Timed) (d : Timed) → AreRising ts → n < length ts → (get_or ts n d).0 < k → AreBelow k (take (n + 1) ts)
-under-to k n ts d up lt below = let on : suc n ≡ n + 1 = omega arith in subst (λ m. AreBelow k (take m ts)) on (under_at k n ts d up lt below)
 
 -- A list by rank, and the readings to come: their ranks are new.
 pub record IsListing (o number place : ℕ) (left : List MeterReading) (listed : List Timed) (capacity : ℕ) : Type 0 where

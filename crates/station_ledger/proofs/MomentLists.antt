@@ -1,5 +1,5 @@
 -- The readings of an event and of a transaction by rank.
-use Rattle.std.{proofs.Common.{◌≡◌, ℕ, ◌+◌, ◌*◌, ◌^◌, ◌<◌, ◌≤◌, Bool, true, false, cond, not, List, [], ◌∷◌, ◌++◌, length, map, refl, sym, ap, subst, ◌∙◌, eqb, nat_lt, bytes_eq, arith}, specs.List.{AllByRecursion, All, filter, flat_map, sum_by}, proofs.lemmas.Bool.Decides.nat_tests, proofs.lemmas.Bool.{eq-eqb, ne_eqb}, proofs.lemmas.Grind.flat_map-append, proofs.lemmas.List.{append-nil, map-append}, proofs.lemmas.List.Elements.recursion_from_All, proofs.lemmas.List.Sums.{sum_by-append, sum_by-cons}}
+use Rattle.std.{proofs.Common.{◌≡◌, ℕ, ◌+◌, ◌*◌, ◌^◌, ◌<◌, ◌≤◌, Bool, true, false, cond, not, List, [], ◌∷◌, ◌++◌, length, map, refl, sym, ap, subst, ◌∙◌, eqb, nat_lt, bytes_eq, arith}, specs.List.{AllByRecursion, filter, flat_map, sum_by}, proofs.lemmas.Bool.Decides.nat_tests, proofs.lemmas.Bool.{eq-eqb, ne_eqb}, proofs.lemmas.Grind.flat_map-append, proofs.lemmas.List.{append-nil, map-append}, proofs.lemmas.List.Elements.recursion_from_All, proofs.lemmas.List.Sums.{sum_by-append, sum_by-cons}}
 use Rattle.ledger_model.specs.BoardLaws as laws
 use Rattle.ledger_model.{specs.declared.order.Order.TheVariants.Moment, specs.declared.reading.Direction.Direction, specs.Content.{Entry, live, live_of}, specs.Deltas.{before_key, behind_key, own_events, IsOneMore}, specs.Energy.readings_by, specs.Event.{IsMeterReading, MeterReading, toward}, specs.Gaps.numbers_of, specs.InTime.{in_time, put_in_time}, specs.ReadingOrder.{Numbered, numbered, numbered_by}, proofs.Bounds.AreEntries-filter, proofs.Callers.{AreEntries, AreForeign, AreOwn, IsEntry, few_toward, in_time-map, live_else, live_with, live_without, numbered_readings, own_before_key, own_behind_key}}
 use Rattle.reading_index.{specs.Ranks.{number_of, owner, owner_of, rank}, specs.Timed.{Timed, has_rank, placed_at, without, AreAbove, AreRising}, specs.declared.placed.PlacedReading.PlacedReading}
@@ -127,16 +127,10 @@ front_listed o n p (r ∷ rs) ts number room behind all = (
   front_listed o n (p + 1) rs ts number (omega (arith, room)) behind all,
 )
 
-each_from : (P : Timed → Type 0) (o n p : ℕ) (rs : List MeterReading)
-    → ((q : ℕ) (r : MeterReading) → q < 2 ^ 10 → P (rank o r.moment n q, r)) → p + length rs ≤ 2 ^ 10
-    → AllByRecursion P (ranked_from o n p rs)
-each_from P o n p [] here room = tt
-each_from P o n p (r ∷ rs) here room = (here p r (omega (arith, room)), each_from P o n (p + 1) rs here (omega (arith, room)))
-
-owned_from : (o n p : ℕ) (rs : List MeterReading) → n < 2 ^ 31 → p + length rs ≤ 2 ^ 10 → AllByRecursion IsMeterReading rs → AllByRecursion (λ t. owner_of t.0 ≡ o) (ranked_from o n p rs)
-owned_from o n p [] number room all = tt
-owned_from o n p (r ∷ rs) number room all =
-    (owner_of-rank o r.moment n p (omega (arith, all.0.moment.1)) number (omega (arith, room)), owned_from o n (p + 1) rs number (omega (arith, room)) all.1)
+each_from : (P : Timed → Type 0) (o n p : ℕ) (rs : List MeterReading) → ((q : ℕ) (r : MeterReading) → q < 2 ^ 10 → IsMeterReading r → P (rank o r.moment n q, r))
+    → p + length rs ≤ 2 ^ 10 → AllByRecursion IsMeterReading rs → AllByRecursion P (ranked_from o n p rs)
+each_from P o n p [] here room all = tt
+each_from P o n p (r ∷ rs) here room all = (here p r (omega (arith, room)) all.0, each_from P o n (p + 1) rs here (omega (arith, room)) all.1)
 
 length_from : (o n p : ℕ) (rs : List MeterReading) → length (ranked_from o n p rs) ≡ length rs
 length_from o n p [] = refl
@@ -150,22 +144,28 @@ are_foreign : (own : Timed → Bool) (ts : List Timed) → AllByRecursion (λ t.
 are_foreign own [] all = tt
 are_foreign own (t ∷ ts) all = (all.0, are_foreign own ts all.1)
 
+-- Readings of entries in range.
+few_ranked : (d : Direction) (e : Entry) → IsEntry e → 0 + length (toward d e.1.event.readings) ≤ 2 ^ 10
+few_ranked d e it = omega (arith, it.event.event.0, few_toward d e.1.event.readings)
+
+each_ranked : (P : Timed → Type 0) (slot : ℕ) (d : Direction) (e : Entry) → IsEntry e
+    → ((q : ℕ) (r : MeterReading) → q < 2 ^ 10 → IsMeterReading r → P (rank (owner slot d) r.moment e.0.seq q, r)) → AllByRecursion P (ranked slot d e)
+each_ranked P slot d e it here = each_from P (owner slot d) e.0.seq 0 (toward d e.1.event.readings) here (few_ranked d e it)
+    (each_toward IsMeterReading d e.1.event.readings (recursion_from_All IsMeterReading e.1.event.readings it.event.readings))
+
 -- An event's readings in one direction, by rank.
 module _ (slot : ℕ) (d : Direction) (e : Entry) where
   abbrev listed : List Timed
   listed = put_each (ranked slot d e) []
 
-  module _ (number : e.0.seq < 2 ^ 31) (few : length e.1.event.readings ≤ 1024) where
-    room : 0 + length (toward d e.1.event.readings) ≤ 2 ^ 10
-    room = omega (arith, few, few_toward d e.1.event.readings)
-
+  module _ (it : IsEntry e) where
     its_distinct : AreDistinct (ranked slot d e)
-    its_distinct = subst AreDistinct (append-nil (ranked slot d e)) (listed_distinct _ (front_listed (owner slot d) e.0.seq 0 (toward d e.1.event.readings) [] number room (λ q r lt. tt) tt))
+    its_distinct = subst AreDistinct (append-nil (ranked slot d e))
+        (listed_distinct _ (front_listed (owner slot d) e.0.seq 0 (toward d e.1.event.readings) [] it.key.number (few_ranked d e it) (λ q r lt. tt) tt))
 
     its_own : AllByRecursion (λ t. own_timed e.0.seq t ≡ true) (ranked slot d e)
-    its_own = each_from (λ t. own_timed e.0.seq t ≡ true) (owner slot d) e.0.seq 0 (toward d e.1.event.readings)
-        (λ q r lt. eq-eqb (number_of (rank (owner slot d) r.moment e.0.seq q)) e.0.seq (number_of-rank (owner slot d) r.moment e.0.seq q number lt))
-        room
+    its_own = each_ranked (λ t. own_timed e.0.seq t ≡ true) slot d e it
+        (λ q r lt is. eq-eqb (number_of (rank (owner slot d) r.moment e.0.seq q)) e.0.seq (number_of-rank (owner slot d) r.moment e.0.seq q it.key.number lt))
 
     pub listed-ranked : AreRising listed
     listed-ranked = subst AreRising (sym (listed_sorted (ranked slot d e) its_distinct)) (distinct_ranked (ranked slot d e) its_distinct)
@@ -176,21 +176,17 @@ module _ (slot : ℕ) (d : Direction) (e : Entry) where
     pub listed-own : AreOwn (own_timed e.0.seq) listed
     listed-own = are_own (own_timed e.0.seq) listed listed_each
 
-    pub listed-owned : All IsMeterReading e.1.event.readings → AllByRecursion (λ t. owner_of t.0 ≡ owner slot d) listed
-    listed-owned all =
-        each_put_each (λ t. owner_of t.0 ≡ owner slot d) (ranked slot d e) []
-        (owned_from (owner slot d) e.0.seq 0 (toward d e.1.event.readings) number room (each_toward IsMeterReading d e.1.event.readings (recursion_from_All IsMeterReading e.1.event.readings all))) tt
+    pub listed-owned : AllByRecursion (λ t. owner_of t.0 ≡ owner slot d) listed
+    listed-owned = each_put_each (λ t. owner_of t.0 ≡ owner slot d) (ranked slot d e) [] (each_ranked (λ t. owner_of t.0 ≡ owner slot d) slot d e it
+        (λ q r lt is. owner_of-rank (owner slot d) r.moment e.0.seq q (omega (arith, is.moment.1)) it.key.number lt)) tt
 
   pub length-listed : length listed ≡ length (toward d e.1.event.readings)
   length-listed = omega (arith, length-put_each (ranked slot d e) [], length_from (owner slot d) e.0.seq 0 (toward d e.1.event.readings))
 
 -- An event's readings have other ranks than those of other events.
 pub other_apart : (seq : ℕ) (own : Bool) (x : Timed) (ts : List Timed) → own_timed seq x ≡ own → AllByRecursion (λ t. own_timed seq t ≡ not own) ts → AreApart x.0 ts
-other_apart seq own x ts is = each_then (λ t. own_timed seq t ≡ not own) (λ t. t.0 ≡ x.0 → ⊥) (λ t other same. never own (sym is ∙ ap (λ n. eqb (number_of n) seq) (sym same) ∙ other)) ts
-  where
-    never : (b : Bool) → b ≡ not b → ⊥
-    never true h = cc
-    never false h = cc
+other_apart seq own x ts is = each_then (λ t. own_timed seq t ≡ not own) (λ t. t.0 ≡ x.0 → ⊥)
+    (λ t other same. let both : own ≡ not own = sym is ∙ ap (λ n. eqb (number_of n) seq) (sym same) ∙ other in grind (arith, both)) ts
 
 all_apart : (seq : ℕ) (own : Bool) (xs ts : List Timed) → AllByRecursion (λ t. own_timed seq t ≡ own) xs → AllByRecursion (λ t. own_timed seq t ≡ not own) ts
     → AllByRecursion (λ x. AreApart x.0 ts) xs
@@ -201,9 +197,6 @@ entries_parts : (es fs : List Entry) → AreEntries (es ++ fs) → AreEntries es
 entries_parts [] fs all = (tt, all)
 entries_parts (e ∷ es) fs all = let rest = entries_parts es fs all.1 in ((all.0, rest.0), rest.1)
 
-few_ranked : (d : Direction) (e : Entry) → IsEntry e → 0 + length (toward d e.1.event.readings) ≤ 2 ^ 10
-few_ranked d e it = omega (arith, it.event.event.0, few_toward d e.1.event.readings)
-
 -- Events of other numbers have readings of other numbers.
 all_foreign : (slot : ℕ) (d : Direction) (seq : ℕ) (es : List Entry) → AreEntries es → AllByRecursion (λ e. e.0.seq ≡ seq → ⊥) es
     → AllByRecursion (λ t. own_timed seq t ≡ false) (flat_map (ranked slot d) es)
@@ -211,9 +204,8 @@ all_foreign slot d seq [] range others = tt
 all_foreign slot d seq (e ∷ es) range others =
     let it : IsEntry e = range.0 in
     each_append (λ t. own_timed seq t ≡ false) (ranked slot d e) (flat_map (ranked slot d) es)
-    (each_from (λ t. own_timed seq t ≡ false) (owner slot d) e.0.seq 0 (toward d e.1.event.readings)
-    (λ q r lt. ne_eqb (number_of (rank (owner slot d) r.moment e.0.seq q)) seq (λ same. others.0 (sym (number_of-rank (owner slot d) r.moment e.0.seq q it.key.number lt) ∙ same)))
-    (few_ranked d e it))
+    (each_ranked (λ t. own_timed seq t ≡ false) slot d e it (λ q r lt is.
+    ne_eqb (number_of (rank (owner slot d) r.moment e.0.seq q)) seq (λ same. others.0 (sym (number_of-rank (owner slot d) r.moment e.0.seq q it.key.number lt) ∙ same))))
     (all_foreign slot d seq es range.1 others.1)
 
 below_other : (seq : ℕ) (es : List Entry) → AllByRecursion (λ (e : Entry). e.0.seq ≡ seq → ⊥) (filter (λ e. nat_lt e.0.seq seq) es)
@@ -253,10 +245,10 @@ module _ (slot : ℕ) (d : Direction) (es new : List Entry) (e : Entry) (one : I
   without_it = ap (flat_map (ranked slot d)) (live_without es new (before_key e.0 es) e (behind_key e.0 es) one) ∙ flat_map-append (ranked slot d) here there
 
   distinct : AreDistinct (ranked slot d e)
-  distinct = its_distinct slot d e it_in_range.key.number it_in_range.event.event.0
+  distinct = its_distinct slot d e it_in_range
 
   own : AllByRecursion (λ t. own_timed e.0.seq t ≡ true) (ranked slot d e)
-  own = its_own slot d e it_in_range.key.number it_in_range.event.event.0
+  own = its_own slot d e it_in_range
 
   pub stand_foreign : AllByRecursion (λ t. own_timed e.0.seq t ≡ false) (timed_of slot d e.0.tx es)
   stand_foreign = each_in_time (λ t. own_timed e.0.seq t ≡ false) at (flat_map (ranked slot d) (live_of e.0.tx es))
@@ -278,8 +270,8 @@ module _ (slot : ℕ) (d : Direction) (es new : List Entry) (e : Entry) (one : I
   go =
       let mine = put_each (ranked slot d e) [] in
       ap (take_each mine) (sym come)
-      ∙ taken_back mine (timed_of slot d e.0.tx es) (ranked_distinct mine (listed-ranked slot d e it_in_range.key.number it_in_range.event.event.0))
-      (all_apart e.0.seq true mine (timed_of slot d e.0.tx es) (listed_each slot d e it_in_range.key.number it_in_range.event.event.0) stand_foreign)
+      ∙ taken_back mine (timed_of slot d e.0.tx es) (ranked_distinct mine (listed-ranked slot d e it_in_range))
+      (all_apart e.0.seq true mine (timed_of slot d e.0.tx es) (listed_each slot d e it_in_range) stand_foreign)
 
   pub foreign : AreForeign (own_timed e.0.seq) (timed_of slot d e.0.tx es)
   foreign = are_foreign (own_timed e.0.seq) (timed_of slot d e.0.tx es) stand_foreign
@@ -298,11 +290,7 @@ timed_else slot d es new front e back u one apart = ap (λ l. in_time at (flat_m
 -- A number is below those of entries.
 above_all : (n : ℕ) (es : List Entry) → laws.AreRising (n ∷ map (λ e. e.0.seq) es) → AllByRecursion (λ (e : Entry). n < e.0.seq) es
 above_all n [] up = tt
-above_all n (e ∷ es) up = (up.0, later es (above_all e.0.seq es up.1))
-  where
-    later : (fs : List Entry) → AllByRecursion (λ (f : Entry). e.0.seq < f.0.seq) fs → AllByRecursion (λ (f : Entry). n < f.0.seq) fs
-    later [] all = tt
-    later (f ∷ fs) all = (omega (arith, all.0, up.0), later fs all.1)
+above_all n (e ∷ es) up = (up.0, each_then (λ f. e.0.seq < f.0.seq) (λ f. n < f.0.seq) (λ f lt. omega (arith, lt, up.0)) es (above_all e.0.seq es up.1))
 
 rising_tail : (n : ℕ) (ns : List ℕ) → laws.AreRising (n ∷ ns) → laws.AreRising ns
 rising_tail n [] up = tt
@@ -333,25 +321,18 @@ shown_from : (o n p : ℕ) (rs : List MeterReading) → n < 2 ^ 31 → p + lengt
 shown_from o n p [] number room = refl
 shown_from o n p (r ∷ rs) number room = (λ i. (number_of-rank o r.moment n p number (omega (arith, room)) i, r) ∷ shown_from o n (p + 1) rs number (omega (arith, room)) i)
 
-entries_shown : (slot : ℕ) (d : Direction) (es : List Entry) → AreEntries es → map shown (flat_map (ranked slot d) es) ≡ flat_map (numbered d) es
-entries_shown slot d [] range = refl
-entries_shown slot d (e ∷ es) range =
-    let it : IsEntry e = range.0 in
-    map-append shown (ranked slot d e) (flat_map (ranked slot d) es)
-    ∙ (λ i. shown_from (owner slot d) e.0.seq 0 (toward d e.1.event.readings) it.key.number (few_ranked d e it) i ++ entries_shown slot d es range.1 i)
-
 placed_shown : (o n p : ℕ) (rs : List MeterReading) → n < 2 ^ 31 → p + length rs ≤ 2 ^ 10 → map placed_at (ranked_from o n p rs) ≡ placed_from n p rs
 placed_shown o n p [] number room = refl
 placed_shown o n p (r ∷ rs) number room =
     let n_is = number_of-rank o r.moment n p number (omega (arith, room)) in let p_is = place_of-rank o r.moment n p (omega (arith, room)) in
     (λ i. record { number = n_is i; place = p_is i; reading = r } ∷ placed_shown o n (p + 1) rs number (omega (arith, room)) i)
 
-entries_placed : (slot : ℕ) (d : Direction) (es : List Entry) → AreEntries es → map placed_at (flat_map (ranked slot d) es) ≡ flat_map (placed d) es
-entries_placed slot d [] range = refl
-entries_placed slot d (e ∷ es) range =
-    let it : IsEntry e = range.0 in
-    map-append placed_at (ranked slot d e) (flat_map (ranked slot d) es)
-    ∙ (λ i. placed_shown (owner slot d) e.0.seq 0 (toward d e.1.event.readings) it.key.number (few_ranked d e it) i ++ entries_placed slot d es range.1 i)
+-- What the readings of entries show, by what those of each do.
+entries_shown : {X : Type 0} (f : Timed → X) (g : Entry → List X) (slot : ℕ) (d : Direction) → ((e : Entry) → IsEntry e → map f (ranked slot d e) ≡ g e)
+    → (es : List Entry) → AreEntries es → map f (flat_map (ranked slot d) es) ≡ flat_map g es
+entries_shown f g slot d each [] range = refl
+entries_shown f g slot d each (e ∷ es) range =
+    map-append f (ranked slot d e) (flat_map (ranked slot d) es) ∙ (λ i. each e range.0 i ++ entries_shown f g slot d each es range.1 i)
 
 bare_shown : (ts : List Timed) → bare ts ≡ map (λ (n : Numbered). n.1) (map shown ts)
 bare_shown [] = refl
@@ -369,19 +350,21 @@ module _ (slot : ℕ) (d : Direction) (tx : List ℕ) (es : List Entry) (range :
   pub timed-ranked : AreRising (timed_of slot d tx es)
   timed-ranked = distinct_ranked (flat_map (ranked slot d) (live_of tx es)) (listed_distinct _ live_listed)
 
-  -- by rank they are as by moment, with the numbers of their events
+  -- by rank they are as by moment
+  by_moment : {X : Type 0} (when : X → ℕ) (f : Timed → X) (g : Entry → List X) → ((t : Timed) → t.1.moment ≡ when (f t)) → ((e : Entry) → IsEntry e → map f (ranked slot d e) ≡ g e)
+      → map f (timed_of slot d tx es) ≡ in_time when (flat_map g (live_of tx es))
+  by_moment when f g same each = ap (map f) (by_rank _ live_listed ∙ (λ i. in_time (λ t. same t i) (flat_map (ranked slot d) (live_of tx es))))
+      ∙ sym (in_time-map when f (flat_map (ranked slot d) (live_of tx es))) ∙ ap (in_time when) (entries_shown f g slot d each (live_of tx es) live_range)
+
+  -- with the numbers of their events
   pub numbered-timed : map (λ (t : Timed). (number_of t.0, t.1)) (timed_of slot d tx es) ≡ numbered_by Moment d tx es
-  numbered-timed =
-      ap (map shown) (by_rank (flat_map (ranked slot d) (live_of tx es)) live_listed)
-      ∙ sym (in_time-map (λ (n : Numbered). n.1.moment) shown (flat_map (ranked slot d) (live_of tx es)))
-      ∙ ap (in_time (λ (n : Numbered). n.1.moment)) (entries_shown slot d (live_of tx es) live_range)
+  numbered-timed = by_moment (λ (n : Numbered). n.1.moment) shown (numbered d) (λ t. refl)
+      (λ e it. shown_from (owner slot d) e.0.seq 0 (toward d e.1.event.readings) it.key.number (few_ranked d e it))
 
   -- and their places there
   pub placed-timed : map placed_at (timed_of slot d tx es) ≡ placed_by Moment d tx es
-  placed-timed =
-      ap (map placed_at) (by_rank (flat_map (ranked slot d) (live_of tx es)) live_listed)
-      ∙ sym (in_time-map (λ (p : PlacedReading). p.reading.moment) placed_at (flat_map (ranked slot d) (live_of tx es)))
-      ∙ ap (in_time (λ (p : PlacedReading). p.reading.moment)) (entries_placed slot d (live_of tx es) live_range)
+  placed-timed = by_moment (λ (p : PlacedReading). p.reading.moment) placed_at (placed d) (λ t. refl)
+      (λ e it. placed_shown (owner slot d) e.0.seq 0 (toward d e.1.event.readings) it.key.number (few_ranked d e it))
 
   -- and without
   pub bare-timed : bare (timed_of slot d tx es) ≡ readings_by Moment d tx es

@@ -1,6 +1,6 @@
 -- Readings by rank: what a rank says, and how lists by rank change.
-use Rattle.std.{proofs.Common.{◌≡◌, ℕ, ◌+◌, ◌*◌, ◌/◌, ◌%◌, ◌^◌, ◌<◌, ◌≤◌, Bool, true, false, cond, not, List, [], ◌∷◌, ◌++◌, length, refl, ap, ◌∙◌, eqb, arith}, specs.List.filter, proofs.lemmas.Nat.{div-mul-add, mod-mul-add}, proofs.lemmas.Bool.Decides.nat_tests, proofs.lemmas.Bool.{eq-eqb, ne_eqb}}
-use Rattle.ledger_model.{specs.declared.reading.Direction.Direction, specs.declared.reading.Direction.TheVariants.{Import, Export}, specs.InTime.{put_in_time, AreInTime}, proofs.Callers.put-passed}
+use Rattle.std.{proofs.Common.{◌≡◌, ℕ, ◌+◌, ◌*◌, ◌/◌, ◌%◌, ◌^◌, ◌<◌, ◌≤◌, true, false, cond, not, List, [], ◌∷◌, ◌++◌, length, refl, ap, ◌∙◌, eqb, arith}, proofs.lemmas.Nat.{div-mul-add, mod-mul-add}, proofs.lemmas.Bool.Decides.nat_tests, proofs.lemmas.Bool.{eq-eqb, ne_eqb}}
+use Rattle.ledger_model.{specs.declared.reading.Direction.Direction, specs.declared.reading.Direction.TheVariants.{Import, Export}, specs.InTime.{put_in_time, AreInTime}, proofs.Callers.put-passed, proofs.SumsByTransaction.filter_turned}
 use Rattle.reading_index.{specs.Ranks.{number_of, owner, owner_of, place_of, rank}, specs.Timed.{Timed, from_on, has_rank, in_front, owned, without, AreAbove, AreRising}}
 use Rattle.key_index.proofs.Orders.{above_less}
 use Rattle.station_ledger.specs.ByMoment.{put_each}
@@ -89,14 +89,9 @@ owned-put o x ts up same = put-passed at (λ t. eqb (owner_of t.0) o) x ts (rank
 pub owned-put_else : (o : ℕ) (x : Timed) (ts : List Timed) → AreRising ts → (owner_of x.0 ≡ o → ⊥) → owned o (put_in_time at x ts) ≡ owned o ts
 owned-put_else o x ts up apart = put-passed at (λ t. eqb (owner_of t.0) o) x ts (ranked-in_time ts up) ∙ ap (λ b. cond b (put_in_time at x (owned o ts)) (owned o ts)) (ne_eqb (owner_of x.0) o apart)
 
--- Two tests pass the same in either order.
-filter_swap : (p q : Timed → Bool) (ts : List Timed) → filter p (filter q ts) ≡ filter q (filter p ts)
-filter_swap p q [] = refl
-filter_swap p q (t ∷ ts) = grind (arith, filter_swap p q ts)
-
 -- What is taken out is taken out of the owner's.
 pub owned-without : (o k : ℕ) (ts : List Timed) → owned o (without k ts) ≡ without k (owned o ts)
-owned-without o k ts = filter_swap (λ t. eqb (owner_of t.0) o) (λ t. not (eqb t.0 k)) ts
+owned-without o k ts = filter_turned (λ t. eqb (owner_of t.0) o) (λ t. not (eqb t.0 k)) ts
 
 pub owned-without_else : (o k : ℕ) (ts : List Timed) → (owner_of k ≡ o → ⊥) → owned o (without k ts) ≡ owned o ts
 owned-without_else o k [] apart = refl

@@ -1,12 +1,12 @@
 -- An event's readings that come or go, run by run.
-use Rattle.std.{proofs.Common.{◌≡◌, ℕ, ◌+◌, ◌*◌, ◌<◌, ◌≤◌, ◌⊎◌, inl, inr, true, false, cond, nat_lt, eqb, List, [], ◌∷◌, ◌++◌, Option, None, Some, length, take, drop, get_or, refl, sym, ap, subst, ◌∙◌, ⊎_elim, arith, append_assoc, length-append}, specs.List.{AllByRecursion, sum_by}, proofs.lemmas.List.Sums.sum_by-append, proofs.lemmas.Bool.Decides.nat_tests, proofs.lemmas.Bool.lt-ltb, proofs.lemmas.List.{append-nil, length-map}}
+use Rattle.std.{proofs.Common.{◌≡◌, ℕ, ◌+◌, ◌*◌, ◌<◌, ◌≤◌, true, false, cond, nat_lt, eqb, List, [], ◌∷◌, ◌++◌, Option, None, Some, length, take, drop, get_or, refl, sym, ap, subst, ◌∙◌, arith, append_assoc, length-append, IfSome}, specs.List.{AllByRecursion, sum_by}, proofs.lemmas.List.Sums.sum_by-append, proofs.lemmas.Bool.Decides.nat_tests, proofs.lemmas.Bool.lt-ltb, proofs.lemmas.List.{append-nil, length-map}}
 use Rattle.energy_flow.specs.Flow.{CanPlus, Energy, no_energy, plus}
 use Rattle.ledger_model.{specs.Periods.Periods, specs.Board.Flowed, specs.Deltas.{pairs_between, first_reading, last_reading}, specs.declared.reading.Direction.Direction, specs.Energy.{Pair, difference, energy_over}, specs.Event.MeterReading, specs.InTime.{put_in_time, runs}, specs.Ranges.{greatest_reading, most_event_readings, most_readings}, proofs.Callers.{AreForeign, AreFrom, AreOwn, few_between}}
 use Rattle.event_chain.specs.declared.around.Sides.{Sides}
 use Rattle.quarter_table.{specs.Pairs.{rows_of, rows_with}, specs.Table.Table, proofs.Several.made_with}
 use Rattle.reading_index.{specs.Ranks.{number_of, owner_of}, specs.Timed.{Timed, first_of, from_on, in_front, last_of, owned, AreAbove, AreRising, AreBelow}, proofs.Listed.filter-ranked}
 use Rattle.key_index.proofs.Orders.{above_less, rising_parts, below_more, below_both}
-use Rattle.station_ledger.{specs.ByMoment.{bare, bare_one, beyond, fits, fitting, put_each}, specs.Quarters.{HasRoom, HoldsPairs, IsTableMoved, IsWork, quartered}, specs.declared.by_moment.Moved.Moved, specs.declared.pairs.Way.Way, specs.declared.pairs.Way.TheVariants.{Coming, Going}, specs.Runs.{came_of, gap_of, gone_of, own_timed, pairs_among, run_pairs, AreApart, AreExchanged, AreFew, AreSwapped, HasRoomWithout}, proofs.MomentRanks.{at, length-put_each, parted}, proofs.MomentWalks.{AreInFront, AreOver, FirstFails, LastFails, few_more, fitting-beyond, fitting-front, followed_fewer, first_bare, foreign_first, foreign_last, foreign_parts, has_room, in_front-append, in_front-under, last-append, last_bare, last_behind, moved_in, one_run_more, over-one, own_parts, put_each-append, put_each-before, put_each-row, put_each-under, ranked-apart, three_sums, with_run}, proofs.Rows.rows_less, proofs.Walks.first_and_rest}
+use Rattle.station_ledger.{specs.ByMoment.{bare, bare_one, beyond, fits, fitting, put_each}, specs.Quarters.{HoldsPairs, IsTableMoved, IsWork, quartered, IsSumOf}, specs.declared.by_moment.Moved.Moved, specs.declared.pairs.Way.Way, specs.declared.pairs.Way.TheVariants.{Coming, Going}, specs.Runs.{came_of, gap_of, gone_of, own_timed, pairs_among, run_pairs, AreApart, AreExchanged, AreFew, AreSwapped, HasRoomWithout, by_way}, proofs.MomentRanks.{at, length-put_each, parted}, proofs.MomentWalks.{AreInFront, AreOver, FirstFails, LastFails, few_more, fitting-beyond, fitting-front, followed_fewer, first_bare, foreign_first, foreign_last, foreign_parts, has_room, in_front-append, in_front-under, last-append, last_bare, moved_in, one_run_more, over-one, own_parts, put_each-append, put_each-before, put_each-row, put_each-under, ranked-apart, with_run}, proofs.Rows.rows_less, proofs.Walks.first_and_rest}
 
 -- Below a rank stay those below it.
 under-put : (n : ℕ) (x : Timed) (ts : List Timed) → x.0 < n → AreBelow n ts → AreBelow n (put_in_time at x ts)
@@ -29,9 +29,13 @@ over-under : (n : ℕ) (ts xs : List Timed) → AreBelow n ts → AreFrom at n x
 over-under n ts [] h k = tt
 over-under n ts (x ∷ xs) h k = (below_more n x.0 ts k.0 h, over-under n ts xs h k.1)
 
-front-of : (n : ℕ) (xs us : List Timed) → AreBelow n xs → AreAbove n us → AreInFront xs us
+above-from : (m n : ℕ) (us : List Timed) → m < n → AreFrom at n us → AreAbove m us
+above-from m n [] lt h = tt
+above-from m n (u ∷ us) lt h = (omega (arith, lt, h.0), above-from m n us lt h.1)
+
+front-of : (n : ℕ) (xs us : List Timed) → AreBelow n xs → AreFrom at n us → AreInFront xs us
 front-of n [] us h k = tt
-front-of n (x ∷ xs) us h k = (above_less x.0 n us (omega (arith, h.0)) k, front-of n xs us h.1 k)
+front-of n (x ∷ xs) us h k = (above-from x.0 n us h.0 k, front-of n xs us h.1 k)
 
 under-first : (xs us : List Timed) (u : Timed) → AreInFront xs (u ∷ us) → AreBelow u.0 xs
 under-first [] us u h = tt
@@ -60,14 +64,10 @@ fits-first : (x : Timed) (us : List Timed) → AreAbove x.0 us → fits (first_o
 fits-first x [] h = refl
 fits-first x (u ∷ us) h = lt-ltb x.0 u.0 h.0
 
--- How many pairs readings in a row make.
-pairs-length : (t : Timed) (ts : List Timed) → length (pairs_among (t ∷ ts)) ≡ length ts
-pairs-length t ts = followed_fewer t.1 (bare ts) ∙ length-map ts (λ (u : Timed). u.1)
-
 -- Fewer than readings, if there may be a reading.
 pairs-fewer : (ts : List Timed) (n : ℕ) → length ts ≤ n → 1 ≤ n → length (pairs_among ts) + 1 ≤ n
 pairs-fewer [] n le some = omega (arith, le, some)
-pairs-fewer (t ∷ ts) n le some = omega (arith, pairs-length t ts, le)
+pairs-fewer (t ∷ ts) n le some = omega (arith, followed_fewer t.1 (bare ts), length-map ts (λ (u : Timed). u.1), le)
 
 abbrev rise : Pair → ℕ
 rise p = (difference p).up
@@ -115,11 +115,8 @@ module _ {way : Way} {seq : ℕ} {before after : Option MeterReading} {run now n
       ap (λ l. runs (own_timed seq) (r.front ++ (l ++ r.back))) r.run_is ∙ one_run_more (own_timed seq) r.front r.first r.more r.back r.last_fails mine r.first_fails
 
   -- how many readings go and come
-  pub gone_few : length (gone_of way run) ≤ length run
-  gone_few = omega (arith, length-parts way run)
-
-  pub came_few : length (came_of way run) ≤ length run
-  came_few = omega (arith, length-parts way run)
+  pub parts_few : (length (gone_of way run) ≤ length run) × (length (came_of way run) ≤ length run)
+  parts_few = omega (arith, length-parts way run)
 
   pub made_few : (ts : List Timed) → length (made ts) ≤ length ts + 1
   made_few ts = omega (arith, few_between before (bare ts) after, length-map ts (λ (t : Timed). t.1))
@@ -130,7 +127,7 @@ module _ {way : Way} {seq : ℕ} {before after : Option MeterReading} {run now n
     all_pairs = ap pairs_among is ∙ with_run r.front ts r.back ∙ sym (λ i. fa ++ (pairs_between (r.before_is i) (bare ts) (r.after_is i) ++ fb))
 
     pub all_sum : (f : Pair → ℕ) → sum_by f (pairs_among all) ≡ sum_by f (fa ++ fb) + sum_by f (made ts)
-    all_sum f = omega (arith, ap (sum_by f) all_pairs, three_sums f fa (made ts) fb, sum_by-append f fa fb)
+    all_sum f = omega (arith, ap (sum_by f) all_pairs, sum_by-append f fa (made ts ++ fb), sum_by-append f (made ts) fb, sum_by-append f fa fb)
 
   -- no more of them than the run makes
   pub all_few : (ts : List Timed) → length ts ≤ length run → length (fa ++ fb) + length (made ts) + 1 ≤ length (r.front ++ r.back) + length run
@@ -146,33 +143,27 @@ module _ {way : Way} {seq : ℕ} {before after : Option MeterReading} {run now n
     pub all_rows : {all : List Timed} (ts : List Timed) → all ≡ r.front ++ (ts ++ r.back) → rows_of (quartered period d (pairs_among all) ++ rest) ≡ rows_of (quartered period d (made ts) ++ beside)
     all_rows ts is = ap (λ ps. rows_of (quartered period d ps ++ rest)) (all_pairs ts is) ∙ moved_in period d fa (made ts) fb rest
 
--- So many runs were moved so far, by the runs that are there now, and by all of them.
-abbrev pub AreTurns : Way → ℕ → ℕ → ℕ → Type 0
-AreTurns Coming turns now total = turns ≤ now
-AreTurns Going turns now total = turns + now ≤ total
+-- At most one difference for each reading that is no longer left, and two for each run that came, or went: by the runs
+-- that are there now, and by all of them.
+pub record IsSpent (way : Way) (w left now most total : ℕ) : Type 0 where
+  pub within : w + left + 2 * by_way way 0 now ≤ most + 2 * by_way way now total
 
-pub turn_counted : (way : Way) {seq : ℕ} {before after : Option MeterReading} {run now next : List Timed} (r : IsRun way seq before after run now next) (turns total : ℕ)
-    → AreTurns way turns (runs (own_timed seq) now) total → AreTurns way (turns + 1) (runs (own_timed seq) next) total
-turn_counted way {seq = seq} r turns total h = grind (arith, h, ap (runs (own_timed seq)) r.now_is, ap (runs (own_timed seq)) r.next_is, one_run r)
+spent_more : {way : Way} {seq : ℕ} {before after : Option MeterReading} {run now next : List Timed} (r : IsRun way seq before after run now next) {w v left rest most total : ℕ}
+    → IsSpent way w left (runs (own_timed seq) now) most total → v + rest ≤ w + left + 2 → IsSpent way v rest (runs (own_timed seq) next) most total
+spent_more {seq = seq} r h more = record { within = grind (arith, h.within, more, ap (runs (own_timed seq)) r.now_is, ap (runs (own_timed seq)) r.next_is, one_run r) }
 
 -- Of the readings that were moved, and those that are left: the ones that are there.
 abbrev pub still : Way → List Timed → List Timed → List Timed
 still Coming done left = done
 still Going done left = left
 
--- What is between an event's readings that came and those that are left: a reading of another.
-pub record AreParted (done left others : List Timed) : Type 0 where
-  pub front : List Timed
-  pub y : Timed
-  pub back : List Timed
-  pub is : others ≡ front ++ y ∷ back
-  pub above : AreBelow y.0 done
-  pub below : AreAbove y.0 left
+-- Of the readings that are left the first is in a gap of the others that those that came have left as it was.
+abbrev pub IsGapKept : List Timed → List Timed → List Timed → Type 0
+IsGapKept done left others = (x : Timed) (xs : List Timed) → left ≡ x ∷ xs → last_of (put_each done (in_front x.0 others)) ≡ last_of (in_front x.0 others)
 
 -- The next run of an event's readings.
-module _ (seq : ℕ) (others done left : List Timed) (x : Timed) (xs : List Timed) (left_is : left ≡ x ∷ xs)
-    (own : AreOwn (own_timed seq) (done ++ left)) (rising : AreRising (done ++ left)) (foreign : AreForeign (own_timed seq) others)
-    (sorted : AreRising others) where
+module _ (seq : ℕ) (others done : List Timed) (x : Timed) (xs : List Timed) (own : AreOwn (own_timed seq) (done ++ x ∷ xs)) (rising : AreRising (done ++ x ∷ xs))
+    (foreign : AreForeign (own_timed seq) others) (sorted : AreRising others) where
   abbrev F : List Timed
   F = in_front x.0 others
 
@@ -180,186 +171,151 @@ module _ (seq : ℕ) (others done left : List Timed) (x : Timed) (xs : List Time
   B = from_on x.0 others
 
   abbrev run : List Timed
-  run = fitting (first_of B) left
+  run = fitting (first_of B) (x ∷ xs)
 
   abbrev rest : List Timed
-  rest = beyond (first_of B) left
+  rest = beyond (first_of B) (x ∷ xs)
 
   others_are : others ≡ F ++ B
   others_are = parted x.0 others sorted
 
-  left_own : AreOwn (own_timed seq) left
-  left_own = (own_parts (own_timed seq) done left own).1
+  left_own : AreOwn (own_timed seq) (x ∷ xs)
+  left_own = (own_parts (own_timed seq) done (x ∷ xs) own).1
 
-  left_rising : AreRising left
-  left_rising = (rising_parts done left rising).1
+  left_rising : AreRising (x ∷ xs)
+  left_rising = (rising_parts done (x ∷ xs) rising).1
 
   B_behind : AreAbove x.0 B
-  B_behind = from_on-behind seq x others (let h : AreOwn (own_timed seq) (x ∷ xs) = subst (AreOwn (own_timed seq)) left_is left_own in h.0) foreign
+  B_behind = from_on-behind seq x others left_own.0 foreign
 
   parts_foreign : AreForeign (own_timed seq) F × AreForeign (own_timed seq) B
   parts_foreign = foreign_parts (own_timed seq) F B (subst (AreForeign (own_timed seq)) others_are foreign)
 
   done_under : AreBelow x.0 done
-  done_under = under-first done xs x (subst (AreInFront done) left_is (ranked-apart done left rising))
+  done_under = under-first done xs x (ranked-apart done (x ∷ xs) rising)
 
-  left_parts : run ++ rest ≡ left
-  left_parts = fitting-beyond (first_of B) left
+  left_parts : run ++ rest ≡ x ∷ xs
+  left_parts = fitting-beyond (first_of B) (x ∷ xs)
 
-  run_own : AreOwn (own_timed seq) run
-  run_own = (own_parts (own_timed seq) run rest (subst (AreOwn (own_timed seq)) (sym left_parts) left_own)).0
-
-  run_rising : AreRising run
-  run_rising = (rising_parts run rest (subst AreRising (sym left_parts) left_rising)).0
+  parts_rising : AreRising (run ++ rest)
+  parts_rising = subst AreRising (sym left_parts) left_rising
 
   run_in_front : AreInFront run B
-  run_in_front = fitting-front B left (rising_parts F B (subst AreRising others_are sorted)).1
+  run_in_front = fitting-front B (x ∷ xs) (rising_parts F B (subst AreRising others_are sorted)).1
 
   from_run : AreFrom at x.0 run × AreFrom at x.0 rest
-  from_run =
-      let above : AreRising (x ∷ xs) = subst AreRising left_is left_rising in
-      from-parts x.0 run rest (subst (AreFrom at x.0) (sym (left_parts ∙ left_is)) (omega arith, from-rising x.0 xs above.0))
+  from_run = from-parts x.0 run rest (subst (AreFrom at x.0) (sym left_parts) (omega arith, from-rising x.0 xs left_rising.0))
 
-  run_first : run ≡ x ∷ fitting (first_of B) xs
-  run_first = ap (fitting (first_of B)) left_is ∙ ap (λ b. cond b (x ∷ fitting (first_of B) xs) []) (fits-first x B B_behind)
+  -- a reading of another is in front of those that are left
+  rest_behind : (bs : List Timed) → B ≡ bs → (z : Timed) (zs : List Timed) → rest ≡ z ∷ zs → (y : Timed) × (ys : List Timed) × (B ≡ y ∷ ys) × AreAbove y.0 rest
+  rest_behind [] none z zs some = let e : [] ≡ z ∷ zs = sym (ap (λ l. beyond (first_of l) (x ∷ xs)) none ∙ none_beyond (x ∷ xs)) ∙ some in cc
+  rest_behind (y ∷ ys) is z zs some =
+      let fore : AreForeign (own_timed seq) (y ∷ ys) = subst (AreForeign (own_timed seq)) is parts_foreign.1 in
+      (y, ys, is, subst (λ o. AreAbove y.0 (beyond o (x ∷ xs))) (sym (ap first_of is)) (beyond-behind seq y (x ∷ xs) fore.0 left_own left_rising))
 
-  -- none is left, or a reading of another is in front of those that are
-  pub parted_next : (rest ≡ []) ⊎ AreParted (done ++ run) rest others
-  parted_next = next B refl
+  -- so the run leaves the next gap as it was
+  pub next_gap : IsGapKept (done ++ run) rest others
+  next_gap z zs some =
+      let b = rest_behind B refl z zs some in let y = b.0 in let ys = b.1 in let is = b.2 in
+      let behind : AreAbove y.0 (z ∷ zs) = subst (AreAbove y.0) some b.3 in
+      let f = in_front z.0 F in let g = in_front z.0 ys in
+      let gap : in_front z.0 others ≡ f ++ y ∷ g = ap (in_front z.0) (others_are ∙ ap (λ l. F ++ l) is) ∙ in_front-append z.0 F (y ∷ ys) ∙ ap (λ c. f ++ cond c (y ∷ g) g) (lt-ltb y.0 z.0 behind.0) in
+      let tail : AreRising (y ∷ g) = (rising_parts f (y ∷ g) (subst AreRising gap (filter-ranked (λ t. nat_lt t.0 z.0) others sorted))).1 in
+      let fore : AreInFront (done ++ run) (y ∷ g) = front-of y.0 (done ++ run) (y ∷ g)
+      (below_both y.0 done run (below_more x.0 y.0 done (let b : AreAbove x.0 (y ∷ ys) = subst (AreAbove x.0) is B_behind in omega (arith, b.0)) done_under)
+      (under-first run ys y (subst (AreInFront run) is run_in_front)))
+      (omega arith, from-rising y.0 g tail.0) in
+      ap (λ l. last_of (put_each (done ++ run) l)) gap ∙ ap last_of (put_each-before (done ++ run) f (y ∷ g) fore)
+      ∙ last-append (put_each (done ++ run) f) g y ∙ sym (last-append f g y) ∙ sym (ap last_of gap)
+
+  -- readings in front of the run, those of the run or none, and readings behind it, among the others
+  threaded : (ds mid es : List Timed) → AreBelow x.0 ds → AreRising mid → AreInFront mid B → AreOver mid es → AreFrom at x.0 mid → AreFrom at x.0 es
+      → put_each es (put_each mid (put_each ds others)) ≡ put_each ds F ++ (mid ++ put_each es B)
+  threaded ds mid es low up fore over from beyond =
+      let front = put_each ds F in let under = under-put_each x.0 ds F low (in_front-under x.0 others) in
+      ap (λ l. put_each es (put_each mid l)) (ap (put_each ds) others_are ∙ put_each-before ds F B (front-of x.0 ds B low (from-rising x.0 B B_behind)))
+      ∙ ap (put_each es) (put_each-under mid front B (over-under x.0 front mid under from) ∙ ap (λ l. front ++ l) (put_each-row mid B up fore))
+      ∙ put_each-under es front (mid ++ B) (over-under x.0 front es under beyond) ∙ ap (λ l. front ++ l) (put_each-under es mid B over)
+
+  -- what is there now, and next
+  now_is : (way : Way) → put_each (still way done (x ∷ xs)) others ≡ put_each (by_way way done []) F ++ (gone_of way run ++ put_each (by_way way [] rest) B)
+  now_is Coming = threaded done [] [] done_under tt tt tt tt tt
+  now_is Going =
+      ap (λ l. put_each l others) (sym left_parts) ∙ put_each-append run rest others
+      ∙ threaded [] run rest tt (rising_parts run rest parts_rising).0 run_in_front (over_run run rest parts_rising) from_run.0 from_run.1
     where
-      next : (bs : List Timed) → B ≡ bs → (rest ≡ []) ⊎ AreParted (done ++ run) rest others
-      next [] none = inl (ap (λ l. beyond (first_of l) left) none ∙ none_beyond left)
-      next (y ∷ ys) is = inr (record {
-        front = F;
-        y = y;
-        back = ys;
-        is = others_are ∙ ap (λ l. F ++ l) is;
-        above = below_both y.0 done run
-            (below_more x.0 y.0 done (let b : AreAbove x.0 (y ∷ ys) = subst (AreAbove x.0) is B_behind in let a = b.0 in omega (arith, a)) done_under)
-            (under-first run ys y (subst (AreInFront run) is run_in_front));
-        below = subst (λ o. AreAbove y.0 (beyond o left)) (sym (ap first_of is))
-            (beyond-behind seq y left (let f : AreForeign (own_timed seq) (y ∷ ys) = subst (AreForeign (own_timed seq)) is parts_foreign.1 in f.0) left_own left_rising);
-      })
+      over_run : (ts us : List Timed) → AreRising (ts ++ us) → AreOver ts us
+      over_run ts [] h = tt
+      over_run ts (u ∷ us) h = over-under u.0 ts (u ∷ us) (under-first ts us u (ranked-apart ts (u ∷ us) h)) (omega arith, from-rising u.0 us (rising_parts ts (u ∷ us) h).1.0)
 
-  -- a run that comes, where those before it came
-  pub coming_run : (done ≡ []) ⊎ ((left ≡ []) ⊎ AreParted done left others) → IsRun Coming seq (bare_one (last_of F)) (bare_one (first_of B)) run (put_each done others) (put_each (done ++ run) others)
-  coming_run gap = record {
-    front = put_each done F;
-    back = B;
-    first = x;
-    more = fitting (first_of B) xs;
-    run_is = run_first;
-    now_is = there;
-    next_is = put_each-append done run others ∙ ap (put_each run) there
-        ∙ put_each-under run (put_each done F) B (over-under x.0 (put_each done F) run (under-put_each x.0 done F done_under (in_front-under x.0 others)) from_run.0)
-        ∙ ap (λ l. put_each done F ++ l) (put_each-row run B run_rising run_in_front);
-    before_is = ap bare_one (sym ends.0) ∙ last_bare (put_each done F);
-    after_is = first_bare B;
-    last_fails = ends.1;
-    first_fails = foreign_first (own_timed seq) B parts_foreign.1;
-    own = run_own;
-  } where
-    there : put_each done others ≡ put_each done F ++ B
-    there = ap (put_each done) others_are ∙ put_each-before done F B (front-of x.0 done B done_under B_behind)
+  then_is : (way : Way) → put_each (still way (done ++ run) rest) others ≡ put_each (by_way way done []) F ++ (came_of way run ++ put_each (by_way way [] rest) B)
+  then_is Coming = put_each-append done run others ∙ threaded done run [] done_under (rising_parts run rest parts_rising).0 run_in_front tt from_run.0 tt
+  then_is Going = threaded [] [] rest tt tt tt (over-under x.0 [] rest tt from_run.1) tt from_run.1
 
-    ends : (last_of (put_each done F) ≡ last_of F) × LastFails (own_timed seq) (put_each done F)
-    ends = ⊎_elim
-        (λ (none : done ≡ []). (ap (λ l. last_of (put_each l F)) none, subst (λ l. LastFails (own_timed seq) (put_each l F)) (sym none) (foreign_last (own_timed seq) F parts_foreign.0)))
-        (λ (some : (left ≡ []) ⊎ AreParted done left others). ⊎_elim
-        (λ (e : left ≡ []). let same : x ∷ xs ≡ [] = sym left_is ∙ e in cc)
-        (λ (p : AreParted done left others). behind p) some) gap
-      where
-        behind : AreParted done left others → (last_of (put_each done F) ≡ last_of F) × LastFails (own_timed seq) (put_each done F)
-        behind p =
-            let y = p.y in let f = in_front x.0 p.front in let b = in_front x.0 p.back in
-            let lt : y.0 < x.0 = (let h : AreAbove y.0 (x ∷ xs) = subst (AreAbove y.0) left_is p.below in h.0) in
-            let F_is : F ≡ f ++ y ∷ b = ap (in_front x.0) p.is ∙ in_front-append x.0 p.front (y ∷ p.back) ∙ ap (λ c. f ++ cond c (y ∷ b) b) (lt-ltb y.0 x.0 lt) in
-            let F_sorted : AreRising (f ++ y ∷ b) = subst AreRising F_is (filter-ranked (λ t. nat_lt t.0 x.0) others sorted) in
-            let tail : AreRising (y ∷ b) = (rising_parts f (y ∷ b) F_sorted).1 in
-            let fore : AreForeign (own_timed seq) (y ∷ b) = (foreign_parts (own_timed seq) f (y ∷ b) (subst (AreForeign (own_timed seq)) F_is parts_foreign.0)).1 in
-            let put : put_each done F ≡ put_each done f ++ y ∷ b = ap (put_each done) F_is ∙ put_each-before done f (y ∷ b) (with_it done p.above tail.0) in (
-              ap last_of put ∙ last-append (put_each done f) b y ∙ sym (last-append f b y) ∙ sym (ap last_of F_is),
-              subst (LastFails (own_timed seq)) (sym put) (last_behind (own_timed seq) (put_each done f) b y (foreign_last (own_timed seq) (y ∷ b) fore)),
-            )
-          where
-            with_it : (ds : List Timed) → AreBelow p.y.0 ds → AreAbove p.y.0 (in_front x.0 p.back) → AreInFront ds (p.y ∷ in_front x.0 p.back)
-            with_it [] h k = tt
-            with_it (d ∷ ds) h k = ((h.0, above_less d.0 p.y.0 (in_front x.0 p.back) (let a = h.0 in omega (arith, a)) k), with_it ds h.1 k)
+  -- the gap has the ends that it has among the others
+  last_is : (way : Way) → IsGapKept done (x ∷ xs) others → last_of (put_each (by_way way done []) F) ≡ last_of F
+  last_is Coming gap = gap x xs refl
+  last_is Going gap = refl
 
-  -- a run that goes, where those behind it are still there
-  pub going_run : IsRun Going seq (bare_one (last_of F)) (bare_one (first_of B)) run (put_each left others) (put_each rest others)
-  going_run = record {
-    front = F;
-    back = put_each rest B;
-    first = x;
-    more = fitting (first_of B) xs;
-    run_is = run_first;
-    now_is =
-        ap (λ l. put_each l others) (sym left_parts) ∙ put_each-append run rest others
-        ∙ ap (put_each rest) (ap (put_each run) others_are ∙ put_each-under run F B (over-under x.0 F run (in_front-under x.0 others) from_run.0)
-        ∙ ap (λ l. F ++ l) (put_each-row run B run_rising run_in_front))
-        ∙ put_each-under rest F (run ++ B) (over-under x.0 F rest (in_front-under x.0 others) from_run.1)
-        ∙ ap (λ l. F ++ l) (put_each-under rest run B (over_run run rest (subst AreRising (sym left_parts) left_rising)));
-    next_is = ap (put_each rest) others_are ∙ put_each-under rest F B (over-under x.0 F rest (in_front-under x.0 others) from_run.1);
-    before_is = last_bare F;
-    after_is = ap bare_one (sym (begins B refl).0) ∙ first_bare (put_each rest B);
-    last_fails = foreign_last (own_timed seq) F parts_foreign.0;
-    first_fails = (begins B refl).1;
-    own = run_own;
-  } where
-    over_run : (ts us : List Timed) → AreRising (ts ++ us) → AreOver ts us
-    over_run ts [] h = tt
-    over_run ts (u ∷ us) h = over-under u.0 ts (u ∷ us) (under-first ts us u (ranked-apart ts (u ∷ us) h)) (omega arith, from-rising u.0 us (rising_parts ts (u ∷ us) h).1.0)
-
-    begins : (bs : List Timed) → B ≡ bs → (first_of (put_each rest B) ≡ first_of B) × FirstFails (own_timed seq) (put_each rest B)
-    begins [] none =
-        let gone : rest ≡ [] = ap (λ l. beyond (first_of l) left) none ∙ none_beyond left in
-        (ap (λ l. first_of (put_each l B)) gone, subst (λ l. FirstFails (own_timed seq) (put_each l B)) (sym gone) (foreign_first (own_timed seq) B parts_foreign.1))
-    begins (y ∷ ys) is =
-        let fore : AreForeign (own_timed seq) (y ∷ ys) = subst (AreForeign (own_timed seq)) is parts_foreign.1 in
-        let behind : AreAbove y.0 rest = subst (λ o. AreAbove y.0 (beyond o left)) (sym (ap first_of is)) (beyond-behind seq y left fore.0 left_own left_rising) in
-        let put : put_each rest B ≡ y ∷ put_each rest ys = ap (put_each rest) is ∙ put_each-under rest (y ∷ []) ys (over-one y rest behind) in
-        (ap first_of put ∙ sym (ap first_of is), subst (FirstFails (own_timed seq)) (sym put) fore.0)
+  first_is : (way : Way) → first_of (put_each (by_way way [] rest) B) ≡ first_of B
+  first_is Coming = refl
+  first_is Going = begins rest refl
+    where
+      begins : (zs : List Timed) → rest ≡ zs → first_of (put_each rest B) ≡ first_of B
+      begins [] none = ap (λ l. first_of (put_each l B)) none
+      begins (z ∷ zs) some =
+          let b = rest_behind B refl z zs some in
+          ap (λ l. first_of (put_each rest l)) b.2 ∙ ap first_of (put_each-under rest (b.0 ∷ []) b.1 (over-one b.0 rest b.3)) ∙ sym (ap first_of b.2)
 
   -- a run that comes or goes
-  pub next_run : (way : Way) → (done ≡ []) ⊎ ((left ≡ []) ⊎ AreParted done left others)
-      → IsRun way seq (bare_one (last_of F)) (bare_one (first_of B)) run (put_each (still way done left) others) (put_each (still way (done ++ run) rest) others)
-  next_run Coming gap = coming_run gap
-  next_run Going gap = going_run
+  pub next_run : (way : Way) → IsGapKept done (x ∷ xs) others
+      → IsRun way seq (bare_one (last_of F)) (bare_one (first_of B)) run (put_each (still way done (x ∷ xs)) others) (put_each (still way (done ++ run) rest) others)
+  next_run way gap = record {
+    front = put_each (by_way way done []) F;
+    back = put_each (by_way way [] rest) B;
+    first = x;
+    more = fitting (first_of B) xs;
+    run_is = ap (λ b. cond b (x ∷ fitting (first_of B) xs) []) (fits-first x B B_behind);
+    now_is = now_is way;
+    next_is = then_is way;
+    before_is = ap bare_one (sym (last_is way gap)) ∙ last_bare (put_each (by_way way done []) F);
+    after_is = ap bare_one (sym (first_is way)) ∙ first_bare (put_each (by_way way [] rest) B);
+    last_fails = subst (λ o. IfSome o (λ t. own_timed seq t ≡ false)) (sym (last_is way gap)) (foreign_last (own_timed seq) F parts_foreign.0);
+    first_fails = subst (λ o. IfSome o (λ t. own_timed seq t ≡ false)) (sym (first_is way)) (foreign_first (own_timed seq) B parts_foreign.1);
+    own = (own_parts (own_timed seq) run rest (subst (AreOwn (own_timed seq)) (sym left_parts) left_own)).0;
+  }
 
 -- What holds of a gap and two runs holds of equal ones.
 pub at_turn : (P : Sides → List Timed → List Timed → Type 0) {g h : Sides} {a b x y : List Timed} → g ≡ h → a ≡ b → x ≡ y → P g a x → P h b y
-at_turn P {g = g} {h = h} {a = a} {b = b} {x = x} {y = y} e f k holds = subst (P h b) k (subst (λ l. P h l x) f (subst (λ s. P s a x) e holds))
+at_turn P e f k holds = subst (λ (t : Sides × List Timed × List Timed). P t.0 t.1 t.2) (λ i. (e i, f i, k i)) holds
 
--- A run's pairs in the periods: those that go are there, and those that come are put beside the others.
+-- A run's pairs in the periods: those that go are there, and the others are left.
 module _ (period : Periods) (d : Direction) {way : Way} {seq : ℕ} {before after : Option MeterReading} {run now next : List Timed}
-    (r : IsRun way seq before after run now next) (rest : List Flowed) (t : Table) where
-  module _ (rows : t.rows ≡ rows_of (quartered period d (pairs_among now) ++ rest)) where
-    pub gone_held : HoldsPairs period d (made r (gone_of way run)) t
-    gone_held = (beside r period d rest, rows ∙ all_rows r period d rest (gone_of way run) r.now_is)
+    (r : IsRun way seq before after run now next) (rest : List Flowed) (t : Table) (rows : t.rows ≡ rows_of (quartered period d (pairs_among now) ++ rest)) where
+  all_there : t.rows ≡ rows_of (quartered period d (made r (gone_of way run)) ++ beside r period d rest)
+  all_there = rows ∙ all_rows r period d rest (gone_of way run) r.now_is
 
-    pub gone_left : {left : Table} → IsTableMoved Going (quartered period d (made r (gone_of way run))) t left → left.rows ≡ rows_of (beside r period d rest)
-    gone_left taken = rows_less (beside r period d rest) (rows ∙ all_rows r period d rest (gone_of way run) r.now_is) taken
+  pub gone_left : {left : Table} → IsTableMoved Going (quartered period d (made r (gone_of way run))) t left → left.rows ≡ rows_of (beside r period d rest)
+  gone_left taken = rows_less (beside r period d rest) all_there taken
 
-  pub put_back : {then : Table} (ps : List Pair) → t.rows ≡ rows_of (beside r period d rest) → IsTableMoved Coming (quartered period d ps) t then
-      → then.rows ≡ rows_of (quartered period d ps ++ beside r period d rest)
-  put_back ps rows put = put.rows ∙ ap (rows_with (quartered period d ps)) rows ∙ made_with (quartered period d ps) (beside r period d rest)
-
--- The state of the walk over an event's readings: the pairs of the owner that are in the periods
--- now, and the energies that went and came.
-pub record IsMoving (period : Periods) (d : Direction) (all left from now : List Timed) (rest : List Flowed) (t : Table) (less more : Energy) : Type 0 where
-  pub rows : t.rows ≡ rows_of (quartered period d (pairs_among now) ++ rest)
-  pub up : (energy_over (pairs_among now)).up + less.up ≡ (energy_over (pairs_among from)).up + more.up
-  pub down : (energy_over (pairs_among now)).down + less.down ≡ (energy_over (pairs_among from)).down + more.down
+-- How energies that went and came compare with those from the start, and how large they are.
+pub record AreBalanced (all left : List Timed) (from now less more : Energy) : Type 0 where
+  pub up : now.up + less.up ≡ from.up + more.up
+  pub down : now.down + less.down ≡ from.down + more.down
   pub less_up : less.up + greatest_reading * (2 * length left) ≤ greatest_reading * (2 * length all)
   pub less_down : less.down + greatest_reading * (2 * length left) ≤ greatest_reading * (2 * length all)
   pub more_up : more.up + greatest_reading * (2 * length left) ≤ greatest_reading * (2 * length all)
   pub more_down : more.down + greatest_reading * (2 * length left) ≤ greatest_reading * (2 * length all)
 
--- What pairs that went and came cost.
-pub spent_swap : {period : Periods} {d : Direction} {gone came : List Pair} {t next : Table} {w v : ℕ} {m : Moved}
-    → AreSwapped period d gone came t next w v m → (v ≤ w + length gone + length came) × (w ≤ v)
-spent_swap s = (omega (arith, s.taken.work.bound, s.added.work.bound), omega (arith, s.taken.work.grows, s.added.work.grows))
+-- The state of the walk over an event's readings: the pairs of the owner that are in the periods
+-- now, and the energies that went and came.
+pub record IsMoving (period : Periods) (d : Direction) (all left from now : List Timed) (rest : List Flowed) (t : Table) (less more : Energy) : Type 0 where
+  pub rows : t.rows ≡ rows_of (quartered period d (pairs_among now) ++ rest)
+  pub sums : AreBalanced all left (energy_over (pairs_among from)) (energy_over (pairs_among now)) less more
+
+-- A sum of pairs, by rises and falls.
+summed : {ps : List Pair} {e : Energy} → IsSumOf ps e → (e.up ≡ sum_by rise ps) × (e.down ≡ sum_by fall ps)
+summed s = (ap (λ (e : Energy). e.up) s.is, ap (λ (e : Energy). e.down) s.is)
 
 -- A run came, or went, and so much is left.
 module _ {way : Way} {seq : ℕ} {period : Periods} {d : Direction} {before after : Option MeterReading} {run now next : List Timed}
@@ -369,57 +325,28 @@ module _ {way : Way} {seq : ℕ} {period : Periods} {d : Direction} {before afte
       → AreSwapped period d (made r (gone_of way run)) (made r (came_of way run)) t then w v m
       → IsMoving period d all beyond from next rest then (plus less m.less) (plus more m.more)
   run_moved h s =
-      let gone = all_sum r (gone_of way run) r.now_is in let came = all_sum r (came_of way run) r.next_is in
+      let gone = all_sum r (gone_of way run) r.now_is in let came = all_sum r (came_of way run) r.next_is in let less_is = summed s.taken.sum in let more_is = summed s.added.sum in
+      let gone_rise = gone rise in let gone_fall = gone fall in let came_rise = came rise in let came_fall = came fall in
+      let few_gone = made_few r (gone_of way run) in let few_came = made_few r (came_of way run) in
       record {
-        rows = put_back period d r rest s.left (made r (came_of way run)) (gone_left period d r rest t h.rows s.taken.quarters) s.added.quarters
-            ∙ sym (all_rows r period d rest (came_of way run) r.next_is);
-        up = omega (arith, h.up, gone rise, came rise, ap (λ (e : Energy). e.up) s.taken.sum.is, ap (λ (e : Energy). e.up) s.added.sum.is);
-        down = omega (arith, h.down, gone fall, came fall, ap (λ (e : Energy). e.down) s.taken.sum.is, ap (λ (e : Energy). e.down) s.added.sum.is);
-        less_up = omega (arith, h.less_up, s.taken.sum.up, made_few r (gone_of way run), gone_few r, long, run_some r);
-        less_down = omega (arith, h.less_down, s.taken.sum.down, made_few r (gone_of way run), gone_few r, long, run_some r);
-        more_up = omega (arith, h.more_up, s.added.sum.up, made_few r (came_of way run), came_few r, long, run_some r);
-        more_down = omega (arith, h.more_down, s.added.sum.down, made_few r (came_of way run), came_few r, long, run_some r);
+        rows = s.added.quarters.rows ∙ ap (rows_with (quartered period d (made r (came_of way run)))) (gone_left period d r rest t h.rows s.taken.quarters)
+            ∙ made_with (quartered period d (made r (came_of way run))) (beside r period d rest) ∙ sym (all_rows r period d rest (came_of way run) r.next_is);
+        sums = omega (arith, h.sums, s.taken.sum.up, s.taken.sum.down, s.added.sum.up, s.added.sum.down, parts_few r, long, run_some r);
       }
-
--- There is room for the pairs that come.
-module _ {o seq : ℕ} {period : Periods} {d : Direction} {all others : List Timed} {ps : List Pair} {base : Table}
-    {rest : List Flowed} (a : AreApart o seq period d all others ps base rest) {way : Way} {before after : Option MeterReading}
-    {run now next : List Timed} (r : IsRun way seq before after run now next) {from left : List Timed} {t : Table}
-    {less more : Energy} (same : ps ≡ pairs_among from) (cap : t.capacity ≡ base.capacity)
-    (h : IsMoving period d all left from now rest t less more) where
-  few_now : AreFew (most_readings + 2 * most_event_readings) d (energy_over (fa r ++ fb r)) rest
-  few_now =
-      let few : AreFew most_readings d (energy_over (pairs_among from)) rest = subst (λ qs. AreFew most_readings d (energy_over qs) rest) same a.few in
-      few_more most_readings (2 * most_event_readings) d (energy_over (pairs_among from)) (energy_over (fa r ++ fb r)) rest few
-      (omega (arith, h.up, h.more_up, all_sum r (gone_of way run) r.now_is rise, a.small)) (omega (arith, h.down, h.more_down, all_sum r (gone_of way run) r.now_is fall, a.small))
-
-  pub room_beside : {then : Table} (n : ℕ) → then.rows ≡ rows_of (beside r period d rest) → then.capacity ≡ t.capacity
-      → length (fa r ++ fb r) + n + 1 ≤ length others + length all → n ≤ most_event_readings + 1 → HasRoom n then
-  room_beside n rows then_cap room small =
-      has_room period d (fa r ++ fb r) rest n (most_readings + 2 * most_event_readings) _ rows
-      (omega (arith, room, a.room, cap, then_cap)) (omega (arith, a.few_rows, cap, then_cap)) few_now (omega (arith, small))
 
 -- What is known of an event's readings while some are left.
 pub record IsTurning (way : Way) (seq : ℕ) (period : Periods) (d : Direction) (all left others : List Timed) (rest : List Flowed) (t : Table) (start w : ℕ) (less more : Energy) : Type 0 where
   pub done : List Timed
   pub split : all ≡ done ++ left
-  pub gap : (done ≡ []) ⊎ ((left ≡ []) ⊎ AreParted done left others)
+  pub gap : IsGapKept done left others
   pub moving : IsMoving period d all left (put_each (gone_of way all) others) (put_each (still way done left) others) rest t less more
-  pub turns : ℕ
-  pub counted : AreTurns way turns (runs (own_timed seq) (put_each (still way done left) others)) (runs (own_timed seq) (put_each all others))
-  pub spent : w + length left ≤ start + length all + 2 * turns
+  pub spent : IsSpent way w (length left) (runs (own_timed seq) (put_each (still way done left) others)) (start + length all) (runs (own_timed seq) (put_each all others))
   pub grows : start ≤ w
 
 -- What is so of all is so of one among them.
 pub one_of : (P : Timed → Type 0) (done : List Timed) (x : Timed) (xs : List Timed) → AllByRecursion P (done ++ x ∷ xs) → P x
 one_of P [] x xs h = h.0
 one_of P (d ∷ ds) x xs h = one_of P ds x xs h.1
-
--- Little energies fit together.
-pub little : (a b : Energy) → a.up ≤ greatest_reading * (4 * most_event_readings)
-    → a.down ≤ greatest_reading * (4 * most_event_readings) → b.up ≤ greatest_reading * (4 * most_event_readings)
-    → b.down ≤ greatest_reading * (4 * most_event_readings) → CanPlus a b
-little a b au ad bu bd = record { up = omega (arith, au, bu); down = omega (arith, ad, bd) }
 
 -- One turn: the readings that fit into the gap at the first of those that are left, and those beyond.
 pub record IsTurn (others left run next_left : List Timed) (before behind : Option Timed) : Type 0 where
@@ -428,109 +355,93 @@ pub record IsTurn (others left run next_left : List Timed) (before behind : Opti
   pub left_is : left ≡ x ∷ xs
   pub before_is : before ≡ last_of (in_front x.0 others)
   pub behind_is : behind ≡ first_of (from_on x.0 others)
-  pub run_is : run ≡ fitting behind left
-  pub next_is : next_left ≡ beyond behind left
+  pub run_is : run ≡ fitting (first_of (from_on x.0 others)) (x ∷ xs)
+  pub next_is : next_left ≡ beyond (first_of (from_on x.0 others)) (x ∷ xs)
 
 module _ {others left run next_left : List Timed} {before behind : Option Timed} (turn : IsTurn others left run next_left before behind) where
+  parts : left ≡ run ++ next_left
+  parts = turn.left_is ∙ sym (fitting-beyond (first_of (from_on turn.x.0 others)) (turn.x ∷ turn.xs)) ∙ sym (λ i. turn.run_is i ++ turn.next_is i)
+
   pub long_left : length left ≡ length run + length next_left
-  long_left = let e = ap length (sym (fitting-beyond behind left) ∙ sym (λ i. turn.run_is i ++ turn.next_is i)) in let n = length-append run next_left in omega (arith, e, n)
+  long_left = ap length parts ∙ length-append run next_left
 
   module _ {o seq : ℕ} {period : Periods} {d : Direction} {all : List Timed} {rest : List Flowed} {base : Table} {ps : List Pair} (a : AreApart o seq period d all others ps base rest) where
-    module _ (done : List Timed) (split : all ≡ done ++ left) where
-      mine : AreOwn (own_timed seq) (done ++ left)
-      mine = subst (AreOwn (own_timed seq)) split a.own
-
-      up : AreRising (done ++ left)
-      up = subst AreRising split a.rising
-
-      pub next_split : all ≡ (done ++ run) ++ next_left
-      next_split = split ∙ ap (λ l. done ++ l) (sym (fitting-beyond behind left) ∙ sym (λ i. turn.run_is i ++ turn.next_is i)) ∙ sym (append_assoc done run next_left)
-
-      pub run_turns : (way : Way) → (done ≡ []) ⊎ ((left ≡ []) ⊎ AreParted done left others)
-          → IsRun way seq (bare_one before) (bare_one behind) run (put_each (still way done left) others) (put_each (still way (done ++ run) next_left) others)
-      run_turns way gap =
-          let Q : Option Timed → Option Timed → List Timed → List Timed
-          → Type 0 = λ b e r n. IsRun way seq (bare_one b) (bare_one e) r (put_each (still way done left) others) (put_each (still way (done ++ r) n) others) in
-          let first = first_of (from_on turn.x.0 others) in
-          subst (Q before behind run) (sym turn.next_is)
-          (subst (λ r. Q before behind r (beyond behind left)) (sym turn.run_is)
-          (subst (λ e. Q before e (fitting e left) (beyond e left)) (sym turn.behind_is)
-          (subst (λ b. Q b first (fitting first left) (beyond first left)) (sym turn.before_is)
-          (next_run seq others done left turn.x turn.xs turn.left_is mine up a.foreign a.sorted way gap))))
-
-      next_gap : (next_left ≡ []) ⊎ AreParted (done ++ run) next_left others
-      next_gap =
-          let P : List Timed → List Timed → Type 0 = λ r n. (n ≡ []) ⊎ AreParted (done ++ r) n others in
-          subst (λ r. P r next_left) (sym turn.run_is)
-          (subst (P (fitting behind left)) (sym turn.next_is)
-          (subst (λ b. P (fitting b left) (beyond b left)) (sym turn.behind_is) (parted_next seq others done left turn.x turn.xs turn.left_is mine up a.foreign a.sorted)))
-
-      all_long : length all ≡ length done + length left
-      all_long = let e = ap length split in let n = length-append done left in omega (arith, e, n)
-
-      run_small : length run ≤ length all
-      run_small = omega (arith, all_long, long_left)
-
     module _ {way : Way} {t : Table} {start w : ℕ} {less more : Energy} (cap : t.capacity ≡ base.capacity)
         (same : ps ≡ pairs_among (put_each (gone_of way all) others))
         (h : IsTurning way seq period d all left others rest t start w less more) where
       abbrev gap : Sides
       gap = gap_of before behind
 
+      all_is : all ≡ h.done ++ turn.x ∷ turn.xs
+      all_is = h.split ∙ ap (λ l. h.done ++ l) turn.left_is
+
+      own : AreOwn (own_timed seq) (h.done ++ turn.x ∷ turn.xs)
+      own = subst (AreOwn (own_timed seq)) all_is a.own
+
+      up : AreRising (h.done ++ turn.x ∷ turn.xs)
+      up = subst AreRising all_is a.rising
+
       the_run : IsRun way seq (bare_one before) (bare_one behind) run (put_each (still way h.done left) others) (put_each (still way (h.done ++ run) next_left) others)
-      the_run = run_turns h.done h.split way h.gap
+      the_run =
+          subst (λ (t : Option Timed × Option Timed × List Timed × List Timed × List Timed).
+          IsRun way seq (bare_one t.0) (bare_one t.1) t.2 (put_each (still way h.done t.3) others) (put_each (still way (h.done ++ t.2) t.4) others))
+          (sym (λ i. (turn.before_is i, turn.behind_is i, turn.run_is i, turn.left_is i, turn.next_is i)))
+          (next_run seq others h.done turn.x turn.xs own up a.foreign a.sorted way (subst (λ l. IsGapKept h.done l others) turn.left_is h.gap))
+
+      all_long : length all ≡ length h.done + length left
+      all_long = ap length h.split ∙ length-append h.done left
 
       gone_small : length (run_pairs gap (gone_of way run)) ≤ length all + 1
-      gone_small = omega (arith, made_few the_run (gone_of way run), gone_few the_run, run_small h.done h.split)
+      gone_small = omega (arith, made_few the_run (gone_of way run), parts_few the_run, all_long, long_left)
 
       came_small : length (run_pairs gap (came_of way run)) ≤ length all + 1
-      came_small = omega (arith, made_few the_run (came_of way run), came_few the_run, run_small h.done h.split)
+      came_small = omega (arith, made_few the_run (came_of way run), parts_few the_run, all_long, long_left)
 
       pub turn_smaller : length next_left < length left
       turn_smaller = omega (arith, long_left, run_some the_run)
 
       pub turn_held : HoldsPairs period d (run_pairs gap (gone_of way run)) t
-      turn_held = gone_held period d the_run rest t h.moving.rows
+      turn_held = (beside the_run period d rest, all_there period d the_run rest t h.moving.rows)
 
       pub turn_few : length (run_pairs gap (gone_of way run)) ≤ most_readings
       turn_few = omega (arith, gone_small, a.small)
 
+      few_now : AreFew (most_readings + 2 * most_event_readings) d (energy_over (fa the_run ++ fb the_run)) rest
+      few_now =
+          let from = put_each (gone_of way all) others in let gone = all_sum the_run (gone_of way run) the_run.now_is in let sums = h.moving.sums in
+          few_more most_readings (2 * most_event_readings) d (energy_over (pairs_among from)) (energy_over (fa the_run ++ fb the_run)) rest
+          (subst (λ qs. AreFew most_readings d (energy_over qs) rest) same a.few)
+          (omega (arith, sums.up, sums.more_up, gone rise, a.small)) (omega (arith, sums.down, sums.more_down, gone fall, a.small))
+
       pub turn_room : HasRoomWithout period d (run_pairs gap (gone_of way run)) (length (run_pairs gap (came_of way run))) t
       turn_room gone taken =
-          room_beside a the_run same cap h.moving (length (run_pairs gap (came_of way run))) (gone_left period d the_run rest t h.moving.rows taken) taken.capacity
-          (let few = all_few the_run (came_of way run) (came_few the_run) in let n = whole way the_run in omega (arith, few, n, all_long h.done h.split, long_left))
-          (omega (arith, came_small, a.small))
+          let few = all_few the_run (came_of way run) (parts_few the_run).1 in let n = whole way the_run in let left_rows = gone_left period d the_run rest t h.moving.rows taken in
+          has_room period d (fa the_run ++ fb the_run) rest (length (run_pairs gap (came_of way run))) (most_readings + 2 * most_event_readings) _ left_rows
+          (omega (arith, few, n, all_long, long_left, a.room, cap, taken.capacity)) (omega (arith, a.few_rows, cap, taken.capacity)) few_now (omega (arith, came_small, a.small))
         where
           whole : (way : Way) (r : IsRun way seq (bare_one before) (bare_one behind) run (put_each (still way h.done left) others) (put_each (still way (h.done ++ run) next_left) others))
               → length (r.front ++ r.back) + length run ≤ length others + length h.done + length left
-          whole Coming r =
-              let e = ap length r.now_is in let n = length-put_each h.done others in
-              omega (arith, e, n, long_left)
-          whole Going r =
-              let e = ap length r.next_is in let n = length-put_each next_left others in
-              omega (arith, e, n, long_left)
+          whole Coming r = omega (arith, ap length r.now_is, length-put_each h.done others, long_left)
+          whole Going r = omega (arith, ap length r.next_is, length-put_each next_left others, long_left)
 
       module _ {then : Table} {v : ℕ} {m : Moved} (s : AreSwapped period d (run_pairs gap (gone_of way run)) (run_pairs gap (came_of way run)) t then w v m) where
         pub turn_less : CanPlus less m.less
-        turn_less = little less m.less (omega (arith, h.moving.less_up, a.small)) (omega (arith, h.moving.less_down, a.small))
-            (omega (arith, s.taken.sum.up, gone_small, a.small)) (omega (arith, s.taken.sum.down, gone_small, a.small))
+        turn_less = omega (arith, h.moving.sums, s.taken.sum.up, s.taken.sum.down, gone_small, a.small)
 
         pub turn_more : CanPlus more m.more
-        turn_more = little more m.more (omega (arith, h.moving.more_up, a.small)) (omega (arith, h.moving.more_down, a.small))
-            (omega (arith, s.added.sum.up, came_small, a.small)) (omega (arith, s.added.sum.down, came_small, a.small))
+        turn_more = omega (arith, h.moving.sums, s.added.sum.up, s.added.sum.down, came_small, a.small)
 
         pub turn_next : IsTurning way seq period d all next_left others rest then start v (plus less m.less) (plus more m.more)
         turn_next =
-            let cost = spent_swap s in
+            let few_gone = made_few the_run (gone_of way run) in let few_came = made_few the_run (came_of way run) in
             record {
               done = h.done ++ run;
-              split = next_split h.done h.split;
-              gap = inr (next_gap h.done h.split);
+              split = h.split ∙ ap (λ l. h.done ++ l) parts ∙ sym (append_assoc h.done run next_left);
+              gap = subst (λ (t : List Timed × List Timed). IsGapKept (h.done ++ t.0) t.1 others) (sym (λ i. (turn.run_is i, turn.next_is i)))
+                  (next_gap seq others h.done turn.x turn.xs own up a.foreign a.sorted);
               moving = run_moved the_run long_left h.moving s;
-              turns = h.turns + 1;
-              counted = turn_counted way the_run h.turns _ h.counted;
-              spent = omega (arith, h.spent, cost.0, made_few the_run (gone_of way run), made_few the_run (came_of way run), length-parts way run, long_left);
-              grows = omega (arith, h.grows, cost.1);
+              spent = spent_more the_run h.spent (omega (arith, s.taken.work.bound, s.added.work.bound, few_gone, few_came, length-parts way run, long_left));
+              grows = omega (arith, h.grows, s.taken.work.grows, s.added.work.grows);
             }
 
 -- The turn that a look into the index finds.
@@ -543,22 +454,24 @@ pub turn_of : (o count : ℕ) (entries : List Timed) {all left run next_left : L
 turn_of o count entries {left = left} {x = x} done owned_by split some x_is before_is behind_is fit past run_is next_is =
     let left_is : left ≡ x ∷ drop 1 left = first_and_rest left (drop 1 left) x x some x_is refl in
     let own : owner_of x.0 ≡ o = one_of (λ r. owner_of r.0 ≡ o) done x (drop 1 left) (subst (AllByRecursion (λ r. owner_of r.0 ≡ o)) (split ∙ ap (λ l. done ++ l) left_is) owned_by) in
+    let behind_at = behind_is ∙ ap (λ n. first_of (from_on x.0 (owned n entries))) own in
     record {
       x = x;
       xs = drop 1 left;
       left_is = left_is;
       before_is = before_is ∙ ap (λ n. last_of (in_front x.0 (owned n entries))) own;
-      behind_is = behind_is ∙ ap (λ n. first_of (from_on x.0 (owned n entries))) own;
-      run_is = run_is ∙ fit;
-      next_is = next_is ∙ past;
+      behind_is = behind_at;
+      run_is = run_is ∙ fit ∙ (λ i. fitting (behind_at i) (left_is i));
+      next_is = next_is ∙ past ∙ (λ i. beyond (behind_at i) (left_is i));
     }
 
 -- At first all are there that go, and none that come.
-all_there : (way : Way) (all : List Timed) → gone_of way all ≡ still way [] all
-all_there way all = grind arith
+still_all : (way : Way) (all : List Timed) → gone_of way all ≡ still way [] all
+still_all way all = grind arith
 
-no_turns : (way : Way) (seq : ℕ) (all others : List Timed) → AreTurns way 0 (runs (own_timed seq) (put_each (still way [] all) others)) (runs (own_timed seq) (put_each all others))
-no_turns way seq all others = grind arith
+none_spent : (way : Way) (seq w : ℕ) (all others : List Timed)
+    → IsSpent way w (length all) (runs (own_timed seq) (put_each (still way [] all) others)) (w + length all) (runs (own_timed seq) (put_each all others))
+none_spent way seq w all others = record { within = grind arith }
 
 pub turning_start : (way : Way) {o seq : ℕ} {period : Periods} {d : Direction} {all others : List Timed} {base : Table} {rest : List Flowed} {w : ℕ}
     → AreApart o seq period d all others (pairs_among (put_each (gone_of way all) others)) base rest
@@ -566,12 +479,10 @@ pub turning_start : (way : Way) {o seq : ℕ} {period : Periods} {d : Direction}
 turning_start way {seq = seq} {period = period} {d = d} {all = all} {others = others} {base = base} {rest = rest} a = record {
   done = [];
   split = refl;
-  gap = inl refl;
-  moving = subst (λ l. IsMoving period d all all (put_each (gone_of way all) others) (put_each l others) rest base no_energy no_energy) (all_there way all)
-      (record { rows = a.rows; up = omega arith; down = omega arith; less_up = omega arith; less_down = omega arith; more_up = omega arith; more_down = omega arith });
-  turns = 0;
-  counted = no_turns way seq all others;
-  spent = omega arith;
+  gap = λ x xs is. refl;
+  moving = subst (λ l. IsMoving period d all all (put_each (gone_of way all) others) (put_each l others) rest base no_energy no_energy) (still_all way all)
+      (record { rows = a.rows; sums = omega arith });
+  spent = none_spent way _ _ all others;
   grows = omega arith;
 }
 
@@ -579,16 +490,16 @@ turning_start way {seq = seq} {period = period} {d = d} {all = all} {others = ot
 pub turning_by : {way : Way} {seq : ℕ} {period : Periods} {d : Direction} {all left others : List Timed} {rest : List Flowed} {t : Table} {start w : ℕ} {less more l m : Energy}
     → l ≡ less → m ≡ more → IsTurning way seq period d all left others rest t start w less more
     → IsTurning way seq period d all left others rest t start w l m
-turning_by {way} {seq} {period} {d} {all} {left} {others} {rest} {t} {start} {w} {less} {more} {l} {m} e f h =
-    subst (λ x. IsTurning way seq period d all left others rest t start w x m) (sym e) (subst (IsTurning way seq period d all left others rest t start w less) (sym f) h)
+turning_by {way} {seq} {period} {d} {all} {left} {others} {rest} {t} {start} {w} e f h =
+    subst (λ (p : Energy × Energy). IsTurning way seq period d all left others rest t start w p.0 p.1) (sym (λ i. (e i, f i))) h
 
 -- At the end all are there that come, and none that go.
 all_moved : (way : Way) (all done left : List Timed) → all ≡ done ++ left → left ≡ [] → still way done left ≡ came_of way all
 all_moved Coming all done left split none = sym (append-nil done) ∙ ap (λ l. done ++ l) (sym none) ∙ sym split
 all_moved Going all done left split none = none
 
-all_turns : (way : Way) (turns now total : ℕ) (is : AreTurns way turns now total) → (way ≡ Coming → now ≡ total) → turns ≤ total
-all_turns way turns now total is all = grind (arith, is, all)
+all_spent : {way : Way} {w left now most total : ℕ} → IsSpent way w left now most total → (way ≡ Coming → now ≡ total) → w ≤ most + 2 * total
+all_spent h same = grind (arith, h.within, same)
 
 -- What occurs once all runs came, or went.
 module _ {o seq : ℕ} {period : Periods} {d : Direction} {all others : List Timed} {ps : List Pair} {base : Table}
@@ -602,10 +513,9 @@ module _ {o seq : ℕ} {period : Periods} {d : Direction} {all others : List Tim
   turning_end =
       let m : IsMoving period d all left (put_each (gone_of way all) others) (put_each (came_of way all) others) rest t less more =
       subst (λ l. IsMoving period d all left (put_each (gone_of way all) others) (put_each l others) rest t less more) then h.moving in
-      record { rows = m.rows; up = m.up; down = m.down; more_up = omega (arith, m.more_up, a.small); more_down = omega (arith, m.more_down, a.small) }
+      record { rows = m.rows; up = m.sums.up; down = m.sums.down; more_up = omega (arith, m.sums.more_up, a.small); more_down = omega (arith, m.sums.more_down, a.small) }
 
   pub turning_work : IsWork (length all + 2 * runs (own_timed seq) (put_each all others)) start w
   turning_work =
-      let total = runs (own_timed seq) (put_each all others) in
-      let few : h.turns ≤ total = all_turns way h.turns _ total h.counted (λ comes. ap (λ l. runs (own_timed seq) (put_each l others)) (then ∙ ap (λ x. came_of x all) comes)) in
-      record { bound = omega (arith, h.spent, few); grows = h.grows }
+      let few = all_spent h.spent (λ comes. ap (λ l. runs (own_timed seq) (put_each l others)) (then ∙ ap (λ x. came_of x all) comes)) in
+      record { bound = omega (arith, few); grows = h.grows }

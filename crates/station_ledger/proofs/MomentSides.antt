@@ -1,7 +1,7 @@
 -- One live event that comes or goes, its readings by rank: an index with them, and its pairs of each direction beside the
 -- others of the station.
-use Rattle.std.{proofs.Common.{◌≡◌, ℕ, ◌+◌, ◌*◌, ◌<◌, ◌≤◌, ◌^◌, Bool, true, false, cond, not, ◌&&◌, List, [], ◌∷◌, ◌++◌, length, map, refl, sym, ap, subst, ◌∙◌, arith, length-append}, specs.List.{AllByRecursion, filter, flat_map, list_any, sum_by}, specs.Str.bytes_eq, proofs.lemmas.List.length-map, proofs.lemmas.List.Sums.sum_by-append}
-use Rattle.energy_flow.specs.Flow.{plus}
+use Rattle.std.{proofs.Common.{◌≡◌, ℕ, ◌+◌, ◌*◌, ◌≤◌, Bool, true, false, cond, not, ◌&&◌, List, [], ◌∷◌, ◌++◌, length, map, refl, sym, ap, subst, ◌∙◌, arith, length-append}, specs.List.{AllByRecursion, filter, flat_map, list_any, sum_by}, specs.Str.bytes_eq, proofs.lemmas.List.length-map, proofs.lemmas.List.Sums.sum_by-append}
+use Rattle.energy_flow.specs.Flow.{Energy, plus}
 use Rattle.event_chain.specs.Chains.{Chained}
 use Rattle.ledger_model.{proofs.EnergyLemmas.same_energy, specs.Periods.Periods, specs.declared.order.Order.TheVariants.Moment, specs.declared.reading.Direction.Direction, specs.declared.reading.Direction.TheVariants.{Import, Export}, specs.Board.Flowed, specs.ByDirection.flows_toward, specs.Content.{Entry, live, transactions_of}, specs.Deltas.{before_key, behind_key}, specs.Energy.{Pair, all_pairs_by, difference, energy_by, energy_of_by, energy_over, followed, pairs_by, quarter_of}, specs.Event.{MeterReading, toward}, specs.InTime.{in_time, runs, runs_behind}, specs.Key.KeyName, specs.Ranges.{greatest_reading, most_event_readings, most_readings}, specs.ReadingOrder.{is_own, numbered_by}, proofs.Callers.{IsEntry, few_toward, own_numbered, station_moves, sum_by-flat_map, sum_by-map, transaction_moves}, proofs.SumsByTransaction.sum_by_one, proofs.TransactionLemmas.any-map}
 use Rattle.quarter_table.{specs.Pairs.rows_of, specs.Table.Table, proofs.Made.made_alike}
@@ -120,23 +120,20 @@ module _ {way : Way} {less more : List Entry} {chains : Chained} {key : KeyName}
   it : IsEntry e
   it = it_in_range slot Import less more e is.one is.large.in_range
 
-  number : key.seq < 2 ^ 31
-  number = omega (arith, it.key.number)
-
-  pub listed_is : (d : Direction) → listed_of slot d chains key ≡ its d
+  listed_is : (d : Direction) → listed_of slot d chains key ≡ its d
   listed_is d = ap (λ rs. put_each (ranked_from (owner slot d) key.seq 0 rs) []) (is.readings d)
 
   pub few_listed : (d : Direction) → length (readings_at d chains key) ≤ most_event_readings
   few_listed d = omega (arith, ap length (is.readings d), few_toward d is.event.event.readings, is.few)
 
   up : (d : Direction) → AreRising (its d)
-  up d = listed-ranked slot d e number is.few
+  up d = listed-ranked slot d e it
 
   mine : (d : Direction) → AreOf (owner slot d) (its d)
-  mine d = listed-owned slot d e number is.few it.event.readings
+  mine d = listed-owned slot d e it
 
   own : (d : Direction) → AllByRecursion (λ t. own_timed key.seq t ≡ true) (its d)
-  own d = listed_each slot d e number is.few
+  own d = listed_each slot d e it
 
   others_foreign : (d : Direction) → AllByRecursion (λ t. own_timed key.seq t ≡ false) (standing d)
   others_foreign d = stand_foreign slot d less more e is.one is.large.in_range
@@ -191,34 +188,22 @@ module _ {way : Way} {less more : List Entry} {chains : Chained} {key : KeyName}
     split : IsSplit (all d es) (pairs_among ts) (others d)
     pub whole : IsSide d es
 
-  parts_less : (d : Direction) → AreParts d (standing d) less
-  parts_less d = record {
-    pairs = pairs_standing d;
-    split = split_less d;
-    whole = record {
-      count = all_grow d;
-      sum = few_station Moment d chains.limits less is.small;
-    };
-  }
-
-  parts_more : (d : Direction) → AreParts d (together d) more
-  parts_more d = record {
+  -- then, and before its readings come or go
+  pub parts_will : (w : Way) (d : Direction) → AreParts d (put_each (came_of w (its d)) (standing d)) (by_way w more less)
+  parts_will Coming d = record {
     pairs = pairs_together d;
     split = split_more d;
-    whole = record {
-      count = omega arith;
-      sum = few_station Moment d chains.limits more is.large;
-    };
+    whole = record { count = omega arith; sum = few_station Moment d chains.limits more is.large };
+  }
+  parts_will Going d = record {
+    pairs = pairs_standing d;
+    split = split_less d;
+    whole = record { count = all_grow d; sum = few_station Moment d chains.limits less is.small };
   }
 
-  -- before its readings come or go, and then
   pub parts_was : (w : Way) (d : Direction) → AreParts d (put_each (gone_of w (its d)) (standing d)) (by_way w less more)
-  parts_was Coming d = parts_less d
-  parts_was Going d = parts_more d
-
-  pub parts_will : (w : Way) (d : Direction) → AreParts d (put_each (came_of w (its d)) (standing d)) (by_way w more less)
-  parts_will Coming d = parts_more d
-  parts_will Going d = parts_less d
+  parts_was Coming d = parts_will Going d
+  parts_was Going d = parts_will Coming d
 
   -- an index with its readings of a direction put in, or taken out
   pub have_place : (w : Way) (d : Direction) (index : TimedReadings)
@@ -266,6 +251,13 @@ module _ {way : Way} {less more : List Entry} {chains : Chained} {key : KeyName}
     pub beyond : IsSide (other d) theirs
     pub place : HavePlace way (its d) index
 
+  -- the energies of a direction that went and came, of the station and of the transaction
+  pub record IsSummed (d : Direction) (less_of more_of : Energy) : Type 0 where
+    pub station : plus (energy_by Moment d will) less_of ≡ plus (energy_by Moment d was) more_of
+    pub own : plus (energy_of_by Moment d key.tx will) less_of ≡ plus (energy_of_by Moment d key.tx was) more_of
+    pub up_few : more_of.up ≤ greatest_reading * most_readings
+    pub down_few : more_of.down ≤ greatest_reading * most_readings
+
   module _ {d : Direction} {theirs : List Entry} {index : TimedReadings} {t : Table} (step : IsStep d theirs index t) where
     abbrev rest : List Flowed
     rest = rest_of period d (all (other d) theirs) (others d)
@@ -277,7 +269,7 @@ module _ {way : Way} {less more : List Entry} {chains : Chained} {key : KeyName}
         let readings_long = readings_few (map (λ (x : Timed). x.1) (together d)) in
         record {
           owned_by = mine d;
-          own = listed-own slot d e number is.few;
+          own = listed-own slot d e it;
           foreign = foreign slot d less more e is.one is.large.in_range;
           rising = up d;
           sorted = timed-ranked slot d key.tx less is.small.in_range (is.small.rising key.tx);
@@ -294,10 +286,14 @@ module _ {way : Way} {less more : List Entry} {chains : Chained} {key : KeyName}
         subst (λ l. AreApart (owner slot d) key.seq period d (its d) l (pairs_among (put_each (gone_of way (its d)) l)) t rest)
         (sym (next_index way d index next step.rising step.at step.place entries).bare) apart
 
-    pub can_move : CanMove way period d (its d) index t
-    can_move = record { o = owner slot d; seq = key.seq; rest = rest; apart = to_move (moved_index way (its d) index) refl; place = step.place }
+    pub can_move : {l : List Timed} → l ≡ listed_of slot d chains key → CanMove way period d l index t
+    can_move l_is = subst (λ l. CanMove way period d l index t) (sym (l_is ∙ listed_is d))
+        (record { o = owner slot d; seq = key.seq; rest = rest; apart = to_move (moved_index way (its d) index) refl; place = step.place })
 
-    module _ {next : TimedReadings} {u : Table} {w v : ℕ} {m : Moved} (moved : AreMoved way period d (its d) index next t u w v m) where
+    module _ {l : List Timed} (l_is : l ≡ listed_of slot d chains key) {next : TimedReadings} {u : Table} {w v : ℕ} {m : Moved} (move : AreMoved way period d l index next t u w v m) where
+      moved : AreMoved way period d (its d) index next t u w v m
+      moved = subst (λ l. AreMoved way period d l index next t u w v m) (l_is ∙ listed_is d) move
+
       pub then : IsNext way d index next
       then = next_index way d index next step.rising step.at step.place moved.entries
 
@@ -311,18 +307,16 @@ module _ {way : Way} {less more : List Entry} {chains : Chained} {key : KeyName}
       rows_next = exchanged.rows ∙ sym (both_alike period d (all d will) (pairs_among (put_each (came_of way (its d)) (standing d))) (others d) (all (other d) theirs) (parts_will way d).split)
 
       -- what came and went of the energies
-      pub sums_moved : (plus (energy_by Moment d will) m.less ≡ plus (energy_by Moment d was) m.more)
-          × (plus (energy_of_by Moment d key.tx will) m.less ≡ plus (energy_of_by Moment d key.tx was) m.more)
+      pub sums_moved : IsSummed d m.less m.more
       sums_moved =
           let rise : Pair → ℕ = λ p. (difference p).up in let fall : Pair → ℕ = λ p. (difference p).down in
-          let old = parts_was way d in let new = parts_will way d in (
-            same_energy _ _ (omega (arith, exchanged.up, old.split rise, new.split rise)) (omega (arith, exchanged.down, old.split fall, new.split fall)),
-            same_energy _ _ (omega (arith, exchanged.up, ap (sum_by rise) old.pairs, ap (sum_by rise) new.pairs))
-                (omega (arith, exchanged.down, ap (sum_by fall) old.pairs, ap (sum_by fall) new.pairs)),
-          )
-
-      pub sums_few : (m.more.up ≤ greatest_reading * most_readings) × (m.more.down ≤ greatest_reading * most_readings)
-      sums_few = (omega (arith, exchanged.more_up), omega (arith, exchanged.more_down))
+          let old = parts_was way d in let new = parts_will way d in record {
+            station = same_energy _ _ (omega (arith, exchanged.up, old.split rise, new.split rise)) (omega (arith, exchanged.down, old.split fall, new.split fall));
+            own = same_energy _ _ (omega (arith, exchanged.up, ap (sum_by rise) old.pairs, ap (sum_by rise) new.pairs))
+                (omega (arith, exchanged.down, ap (sum_by fall) old.pairs, ap (sum_by fall) new.pairs));
+            up_few = omega (arith, exchanged.more_up);
+            down_few = omega (arith, exchanged.more_down);
+          }
 
       -- the work of a direction, by the runs of the order
       pub work_next : IsWork (most_by_moment d key more) w v

@@ -1,12 +1,12 @@
 -- One live event that comes or goes: its readings come to those by moment, or go from them.
-use Rattle.std.{proofs.Common.{◌≡◌, ◌==◌, ℕ, ◌+◌, ◌*◌, ◌<◌, ◌≤◌, false, cond, not, List, ◌∷◌, Option, None, Some, is_some, length, refl, sym, ap, subst, ◌∙◌, ⊎_elim, arith, length-append, vec_capacity}, specs.Str.bytes_eq, specs.Cmp.eq_by_cmp_equiv, proofs.lemmas.Bool.{cases_eq, ne_eqb}, proofs.lemmas.Bool.Decides.nat_tests}
+use Rattle.std.{proofs.Common.{◌≡◌, ◌==◌, ℕ, ◌+◌, ◌<◌, ◌≤◌, false, cond, not, List, ◌∷◌, Option, None, Some, is_some, length, sym, ap, subst, ◌∙◌, ⊎_elim, arith, length-append, vec_capacity}, specs.Str.bytes_eq, specs.Cmp.eq_by_cmp_equiv, proofs.lemmas.Bool.{cases_eq, ne_eqb}, proofs.lemmas.Bool.Decides.nat_tests}
 use Rattle.event_chain.{specs.Chains.{Chained, stored}, specs.Table.{Table as Slots, row_of, TxRow, without_row}, specs.declared.row.TableRow.TableRow}
 use Rattle.event_chain.specs.Table as table
-use Rattle.ledger_model.{proofs.Directions.each_way, specs.Periods.Periods, specs.ByDirection.in_direction, specs.Content.{Entry, live, live_of, transactions_of, has_transaction}, specs.declared.by_direction.ByDirection.ByDirection, specs.declared.order.Order.TheVariants.Moment, specs.declared.reading.Direction.Direction, specs.declared.reading.Direction.TheVariants.{Import, Export}, specs.Deltas.{IsOneMore, before_key, behind_key, own_events}, specs.Energy.{energy_by, energy_of_by}, specs.Key.KeyName, specs.Ranges.{greatest_reading, most_event_readings, most_readings}, proofs.Callers.{live_else, live_with, transactions_more}}
-use Rattle.energy_flow.specs.Flow.{Energy, plus}
+use Rattle.ledger_model.{proofs.Directions.each_way, specs.Periods.Periods, specs.ByDirection.in_direction, specs.Content.{Entry, live, live_of, transactions_of, has_transaction}, specs.declared.by_direction.ByDirection.ByDirection, specs.declared.order.Order.TheVariants.Moment, specs.declared.reading.Direction.Direction, specs.declared.reading.Direction.TheVariants.{Import, Export}, specs.Deltas.{IsOneMore, before_key, behind_key, own_events}, specs.Key.KeyName, specs.Ranges.most_event_readings, proofs.Callers.{live_else, live_with, transactions_more}}
+use Rattle.energy_flow.specs.Flow.{Energy}
 use Rattle.quarter_table.specs.Table.{Table}
 use Rattle.reading_index.{specs.Ranks.owner, specs.Timed.{Timed, TimedReadings, owned}}
-use Rattle.station_ledger.{specs.ByMoment.{timed_of, AreByMoment, IsSlotGiven, live_readings, listed_of}, specs.declared.by_moment.ByMoment.ByMoment, specs.declared.by_moment.Moved.Moved, specs.Moved.IsExchanged, specs.Quarters.{IsWork, readings_at}, specs.Spent.most_in_runs, specs.Sums.AreQuarterRows, proofs.MomentEvents.{IsTurned, by_moment_then, side_before, not_tied}, proofs.MomentLists.timed_else, proofs.MomentRanks.owner-apart, proofs.Moved.has_own, specs.declared.pairs.Way.Way, specs.declared.pairs.Way.TheVariants.{Coming, Going}, specs.Exchange.IsMove, specs.Runs.{by_way, AreMoved, CanMove}, proofs.MomentSides.{IsLong, IsNext, IsStep, can_move, few_listed, grown, have_place, its, listed_is, long_both, parts_was, parts_will, room_more, rows_next, sides_apart, sums_few, sums_moved, then, work_next}}
+use Rattle.station_ledger.{specs.ByMoment.{timed_of, AreByMoment, IsSlotGiven, live_readings, listed_of}, specs.declared.by_moment.ByMoment.ByMoment, specs.declared.by_moment.Moved.Moved, specs.Moved.IsExchanged, specs.Quarters.IsWork, specs.Spent.most_in_runs, specs.Sums.AreQuarterRows, proofs.MomentEvents.{IsTurned, by_moment_then, side_before, not_tied}, proofs.MomentLists.timed_else, proofs.MomentRanks.owner-apart, proofs.Moved.has_own, specs.declared.pairs.Way.Way, specs.declared.pairs.Way.TheVariants.{Coming, Going}, specs.Exchange.IsMove, specs.Runs.{by_way, AreMoved}, proofs.MomentSides.{IsNext, IsStep, grown, have_place, its, long_both, parts_was, parts_will, room_more, rows_next, sides_apart, IsSummed, sums_moved, then, work_next}}
 use Rattle.transaction_map.{proofs.Found.{found_out, length_out}, proofs.Rising.id_total}
 
 -- a transaction with this event has a live one
@@ -23,25 +23,10 @@ row_else tx u rows other = found_out u tx rows ∙ ap (λ b. cond b None (row_of
 rows_less : (tx : List ℕ) (rows : List TxRow) (row : TableRow) → table.AreRising rows → row_of tx rows ≡ Some row → length (without_row tx rows) + 1 ≡ length rows
 rows_less tx rows row rising there = omega (arith, length_out tx rows rising, ap (λ (o : Option TableRow). cond {A = ℕ} (is_some o) 1 0) there)
 
--- There is room for readings that come, of one direction and then of the other, and no more are in the index then than
--- live events have.
-room_first : (way : Way) (n i e r less more : ℕ) → n ≤ by_way way less more → i + e ≡ r → more ≡ less + r → way ≡ Coming → n + i ≤ more
-room_first way n i e r less more few both grown comes = grind arith
-
-room_second : (way : Way) (n mid i e r less more : ℕ) → n ≤ by_way way less more → IsLong way i n mid → i + e ≡ r → more ≡ less + r → way ≡ Coming → mid + e ≤ more
-room_second way n mid i e r less more few long both grown comes = grind arith
-
-few_both : (way : Way) (n mid last i e r less more : ℕ) → n ≤ by_way way less more → IsLong way i n mid → IsLong way e mid last → i + e ≡ r → more ≡ less + r → last ≤ by_way way more less
-few_both way n mid last i e r less more few one two both grown = grind arith
-
 -- What is the same with an event and without it is so before and then.
 same_then : (way : Way) {X Y : Type 0} (f : X → Y) (less more : X) → f more ≡ f less → f (by_way way more less) ≡ f (by_way way less more)
 same_then Coming f less more same = same
 same_then Going f less more same = sym same
-
-sum_then : (way : Way) (es fs : List Entry) → live_readings (by_way way es fs) ≡ by_way way (live_readings es) (live_readings fs)
-sum_then Coming es fs = refl
-sum_then Going es fs = refl
 
 -- What a transaction with a live event has among events with it.
 pub room_for_slot : (way : Way) {less more : List Entry} {chains : Chained} {key : KeyName} {b : ByMoment} {period : Periods} {t : Table}
@@ -79,14 +64,8 @@ module _ {way : Way} {less more : List Entry} {chains : Chained} {key : KeyName}
   abbrev e : Entry
   e = (key, is.event)
 
-  one_more : length (transactions_of (live more)) ≡ cond (has_transaction key.tx (live less)) (length (transactions_of (live less))) (length (transactions_of (live less)) + 1)
-  one_more = transactions_more less more (before_key key less) e (behind_key key less) is.one
-
   lives : 0 < length (live_of key.tx more)
   lives = has_live less more (before_key key less) e (behind_key key less) is.one
-
-  few_was : length b.index.entries ≤ by_way way (live_readings less) (live_readings more)
-  few_was = subst (λ n. length b.index.entries ≤ n) (sum_then way less more) is.timed.few
 
   -- a transaction whose readings come has a live event
   pub some_live : way ≡ Coming → length (live_of key.tx (stored chains)) ≡ 0 → ⊥
@@ -96,82 +75,55 @@ module _ {way : Way} {less more : List Entry} {chains : Chained} {key : KeyName}
     abbrev S : Direction → List Timed
     S d = its is slot d
 
-    pub few_readings : (d : Direction) → length (readings_at d chains key) ≤ most_event_readings
-    few_readings d = few_listed is slot d
-
-    listed : (d : Direction) {l : List Timed} → l ≡ listed_of slot d chains key → l ≡ S d
-    listed d l_is = l_is ∙ listed_is is slot d
-
-    first_step : IsStep is slot Import was b.index t
+    pub first_step : IsStep is slot Import was b.index t
     first_step = record {
       rising = is.timed.in_order;
       at = side_before is.timed given Import;
       rows = is.rows.rows;
       room = is.rows.room;
       beyond = (parts_was is slot way Export).whole;
-      place = have_place is slot way Import b.index (side_before is.timed given Import) (λ comes.
-          let n = room_first way (length b.index.entries) (length (S Import)) (length (S Export)) (length is.event.event.readings)
-          (live_readings less) (live_readings more) few_was (long_both is slot) (grown is slot) comes in
-          omega (arith, n, room_more is slot, is.timed.room));
+      place = have_place is slot way Import b.index (side_before is.timed given Import)
+          (λ comes. grind (arith, comes, is.timed.few, long_both is slot, grown is slot, room_more is slot, is.timed.room));
     }
-
-    pub first_move : {l : List Timed} → l ≡ listed_of slot Import chains key → CanMove way period Import l b.index t
-    first_move l_is = subst (λ l. CanMove way period Import l b.index t) (sym (listed Import l_is)) (can_move is slot first_step)
 
     module _ {l : List Timed} (l_is : l ≡ listed_of slot Import chains key) {index : TimedReadings} {u : Table} {w v : ℕ} {m : Moved}
         (first : AreMoved way period Import l b.index index t u w v m) where
-      moved : AreMoved way period Import (S Import) b.index index t u w v m
-      moved = subst (λ s. AreMoved way period Import s b.index index t u w v m) (listed Import l_is) first
-
       mid : IsNext is slot way Import b.index index
-      mid = then is slot first_step moved
+      mid = then is slot first_step l_is first
 
-      second_step : IsStep is slot Export will index u
+      pub second_step : IsStep is slot Export will index u
       second_step =
           let at = mid.others (owner slot Export) (sides_apart slot) ∙ side_before is.timed given Export in
           record {
             rising = mid.rising;
             at = at;
-            rows = rows_next is slot first_step moved;
-            room = moved.room ∙ is.rows.room;
+            rows = rows_next is slot first_step l_is first;
+            room = first.room ∙ is.rows.room;
             beyond = (parts_will is slot way Import).whole;
-            place = have_place is slot way Export index at (λ comes.
-                let n = room_second way (length b.index.entries) (length index.entries) (length (S Import)) (length (S Export))
-                (length is.event.event.readings) (live_readings less) (live_readings more) few_was mid.long (long_both is slot) (grown is slot) comes in
-                omega (arith, n, room_more is slot, is.timed.room, moved.capacity));
+            place = have_place is slot way Export index at
+                (λ comes. grind (arith, comes, is.timed.few, mid.long, long_both is slot, grown is slot, room_more is slot, is.timed.room, first.capacity));
           }
-
-      pub second_move : {l : List Timed} → l ≡ listed_of slot Export chains key → CanMove way period Export l index u
-      second_move l_is = subst (λ l. CanMove way period Export l index u) (sym (listed Export l_is)) (can_move is slot second_step)
 
       module _ {k_of : List Timed} (k_is : k_of ≡ listed_of slot Export chains key) {last : TimedReadings} {x : Table} {y : ℕ}
           {k : Moved} (second : AreMoved way period Export k_of index last u x v y k) where
-        again : AreMoved way period Export (S Export) index last u x v y k
-        again = subst (λ s. AreMoved way period Export s index last u x v y k) (listed Export k_is) second
-
         end : IsNext is slot way Export index last
-        end = then is slot second_step again
+        end = then is slot second_step k_is second
 
         pub rows_then : AreQuarterRows Moment chains.limits (stored chains) period x
         rows_then = subst (λ es. AreQuarterRows Moment chains.limits es period x) is.now_are
-            (record { rows = rows_next is slot second_step again; room = again.room ∙ moved.room ∙ is.rows.room })
+            (record { rows = rows_next is slot second_step k_is second; room = second.room ∙ first.room ∙ is.rows.room })
 
         pub all_then : IsExchanged Moment key.tx was (stored chains) (record { import = m.less; export = k.less }) (record { import = m.more; export = k.more })
         all_then =
             let less_of : ByDirection Energy = record { import = m.less; export = k.less } in let more_of : ByDirection Energy = record { import = m.more; export = k.more } in
-            let a = sums_moved is slot first_step moved in let b = sums_moved is slot second_step again in
-            let few = sums_few is slot first_step moved in let more_few = sums_few is slot second_step again in
-            subst (λ es. IsExchanged Moment key.tx was es less_of more_of) is.now_are (record {
-              station = each_way (λ d. plus (energy_by Moment d will) (in_direction d less_of) ≡ plus (energy_by Moment d was) (in_direction d more_of)) a.0 b.0;
-              own = each_way (λ d. plus (energy_of_by Moment d key.tx will) (in_direction d less_of) ≡ plus (energy_of_by Moment d key.tx was) (in_direction d more_of)) a.1 b.1;
-              up_few = each_way (λ d. (in_direction d more_of).up ≤ greatest_reading * most_readings) few.0 more_few.0;
-              down_few = each_way (λ d. (in_direction d more_of).down ≤ greatest_reading * most_readings) few.1 more_few.1;
-            })
+            let all = each_way (λ d. IsSummed is slot d (in_direction d less_of) (in_direction d more_of)) (sums_moved is slot first_step l_is first) (sums_moved is slot second_step k_is second) in
+            subst (λ es. IsExchanged Moment key.tx was es less_of more_of) is.now_are
+            (record { station = λ d. (all d).station; own = λ d. (all d).own; up_few = λ d. (all d).up_few; down_few = λ d. (all d).down_few })
 
         pub work_then : IsWork (most_in_runs key more) w y
         work_then =
-            let a = work_next is slot first_step moved in let c = work_next is slot second_step again in
-            record { bound = omega (arith, a.bound, c.bound); grows = omega (arith, a.grows, c.grows) }
+            let a = work_next is slot first_step l_is first in let c = work_next is slot second_step k_is second in
+            omega (arith, a, c)
 
         own_then : (d : Direction) → owned (owner slot d) last.entries ≡ timed_of slot d key.tx will
         own_then Import = end.others (owner slot Import) (λ s. sides_apart slot (sym s)) ∙ mid.own
@@ -188,13 +140,10 @@ module _ {way : Way} {less more : List Entry} {chains : Chained} {key : KeyName}
         }
 
         few_then : length last.entries ≤ live_readings will
-        few_then =
-            subst (λ n. length last.entries ≤ n) (sym (sum_then way more less))
-            (few_both way (length b.index.entries) (length index.entries) (length last.entries) (length (S Import)) (length (S Export))
-            (length is.event.event.readings) (live_readings less) (live_readings more) few_was mid.long end.long (long_both is slot) (grown is slot))
+        few_then = grind (arith, is.timed.few, mid.long, end.long, long_both is slot, grown is slot)
 
         slots_will : length slots.rows ≡ length (transactions_of (live will)) + cond (length (live_of key.tx will) == 0) 1 0
-        slots_will = slots_then way key.tx less more _ lives (slots_more way is given) one_more
+        slots_will = slots_then way key.tx less more _ lives (slots_more way is given) (transactions_more less more (before_key key less) e (behind_key key less) is.one)
 
         -- the transaction has a live event still, or none
         pub timed_then : (after : ByMoment) → table.AreApart slots.rows → table.AreRising slots.rows
@@ -202,7 +151,7 @@ module _ {way : Way} {less more : List Entry} {chains : Chained} {key : KeyName}
             → (length (live_of key.tx (stored chains)) ≡ 0 → after.slots.rows ≡ without_row key.tx slots.rows)
             → after.slots.capacity ≡ slots.capacity → after.index ≡ last → most_event_readings ≤ vec_capacity after.listed → AreByMoment chains.limits (stored chains) after
         timed_then after apart risen kept gone cap i room =
-            let entries = ap (λ (j : TimedReadings). j.entries) i in let index_cap = ap (λ (j : TimedReadings). j.capacity) i ∙ again.capacity ∙ moved.capacity in
+            let entries = ap (λ (j : TimedReadings). j.entries) i in let index_cap = ap (λ (j : TimedReadings). j.capacity) i ∙ second.capacity ∙ first.capacity in
             subst (λ es. AreByMoment chains.limits es after) is.now_are (⊎_elim
             (λ (none : length (live_of key.tx will) ≡ 0).
             let rows = gone (sym (ap (λ es. length (live_of key.tx es)) is.now_are) ∙ none) in let lacks = ap (row_of key.tx) rows ∙ row_gone key.tx slots.rows in

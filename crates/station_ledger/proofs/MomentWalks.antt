@@ -1,9 +1,9 @@
 -- Readings put into the gaps of others, run by run: what their pairs do to the periods, and to sums.
-use Rattle.std.{proofs.Common.{◌≡◌, ℕ, zero, suc, ◌+◌, ◌-◌, ◌*◌, ◌≤◌, Bool, true, false, nat_lt, List, [], ◌∷◌, ◌++◌, Option, length, slice_get, refl, sym, ap, ◌∙◌, arith, length-append}, specs.List.{AllByRecursion, sum_by}, proofs.lemmas.Bool.Decides.nat_tests, proofs.lemmas.List.{map-append, length-map}, proofs.lemmas.List.Elements.filter-append, proofs.lemmas.List.Sums.sum_by-append}
+use Rattle.std.{proofs.Common.{◌≡◌, ℕ, ◌+◌, ◌-◌, ◌*◌, ◌≤◌, Bool, true, false, nat_lt, List, [], ◌∷◌, ◌++◌, Option, length, slice_get, refl, sym, ap, ◌∙◌, arith, length-append, subst, IfSome}, specs.List.{AllByRecursion, sum_by}, proofs.lemmas.Bool.Decides.nat_tests, proofs.lemmas.List.{map-append, length-map}, proofs.lemmas.List.Elements.filter-append, proofs.lemmas.List.Sums.sum_by-append, proofs.lemmas.Option.slice_get-map}
 use Rattle.energy_flow.specs.Flow.{Energy}
 use Rattle.ledger_model.{specs.Periods.Periods, specs.Board.Flowed, specs.Deltas.{pairs_between, first_reading, last_reading}, specs.Energy.{Pair, energy_over, followed}, specs.declared.reading.Direction.Direction, specs.Event.MeterReading, specs.InTime.{put_in_time, runs, runs_behind}, specs.Ranges.{greatest_reading, most_readings}, proofs.Callers.{AreForeign, AreOwn, followed_cut, put-behind, put-front, runs_own, runs_foreign}}
 use Rattle.quarter_table.{specs.Table.Table, specs.Pairs.rows_of, proofs.Made.made_alike}
-use Rattle.key_index.proofs.Orders.{above_parts, above_less}
+use Rattle.key_index.proofs.Orders.{above_parts, above_less, last_cons}
 use Rattle.reading_index.specs.Timed.{Timed, first_of, in_front, last_of, AreAbove, AreRising, AreBelow}
 use Rattle.station_ledger.{specs.ByMoment.{bare, bare_one, beyond, fitting, put_each}, specs.Runs.AreFew, specs.Quarters.{HasRoom, quartered}, proofs.MomentRanks.at, proofs.Rows.{long, up_append, down_append, up_quartered, down_quartered}, proofs.Walks.quartered-append}
 
@@ -22,10 +22,6 @@ moved_in period d a x b rest =
     made_alike (q (a ++ (x ++ b)) ++ rest) (q x ++ (q (a ++ b) ++ rest)) (λ measure.
     let parts = λ (ps qs : List Pair). ap (sum_by measure) (quartered-append period d ps qs) ∙ sum_by-append measure (q ps) (q qs) in
     omega (arith, sum_by-append measure (q (a ++ (x ++ b))) rest, parts a (x ++ b), parts x b, sum_by-append measure (q x) (q (a ++ b) ++ rest), sum_by-append measure (q (a ++ b)) rest, parts a b))
-
--- Sums with three parts.
-pub three_sums : (f : Pair → ℕ) (a x b : List Pair) → sum_by f (a ++ (x ++ b)) ≡ sum_by f a + (sum_by f x + sum_by f b)
-three_sums f a x b = omega (arith, sum_by-append f a (x ++ b), sum_by-append f x b)
 
 pub followed_fewer : (r : MeterReading) (rs : List MeterReading) → length (followed (r ∷ rs)) ≡ length rs
 followed_fewer r [] = refl
@@ -124,28 +120,20 @@ fitting-front (u ∷ us) (x ∷ xs) up = grind (arith, nat_tests, fitting-front 
 -- A run in the gap between a front and a back: the front's last reading and the back's first do not pass a test that
 -- the run does.
 abbrev pub LastFails : (Timed → Bool) → List Timed → Type 0
-LastFails own [] = Unit {0}
-LastFails own (x ∷ []) = own x ≡ false
-LastFails own (x ∷ y ∷ xs) = LastFails own (y ∷ xs)
+LastFails own xs = IfSome (last_of xs) (λ x. own x ≡ false)
 
 abbrev pub FirstFails : (Timed → Bool) → List Timed → Type 0
-FirstFails own [] = Unit {0}
-FirstFails own (x ∷ xs) = own x ≡ false
+FirstFails own xs = IfSome (first_of xs) (λ x. own x ≡ false)
 
 module _ (own : Timed → Bool) where
   pub foreign_last : (xs : List Timed) → AreForeign own xs → LastFails own xs
   foreign_last [] h = tt
   foreign_last (x ∷ []) h = h.0
-  foreign_last (x ∷ y ∷ xs) h = foreign_last (y ∷ xs) h.1
+  foreign_last (x ∷ y ∷ xs) h = subst (λ o. IfSome o (λ t. own t ≡ false)) (sym (last_cons x y xs)) (foreign_last (y ∷ xs) h.1)
 
   pub foreign_first : (xs : List Timed) → AreForeign own xs → FirstFails own xs
   foreign_first [] h = tt
   foreign_first (x ∷ xs) h = h.0
-
-  pub last_behind : (xs ys : List Timed) (y : Timed) → LastFails own (y ∷ ys) → LastFails own (xs ++ y ∷ ys)
-  last_behind [] ys y h = h
-  last_behind (x ∷ []) ys y h = h
-  last_behind (x ∷ z ∷ xs) ys y h = last_behind (z ∷ xs) ys y h
 
   pub foreign_parts : (xs ys : List Timed) → AreForeign own (xs ++ ys) → AreForeign own xs × AreForeign own ys
   foreign_parts [] ys h = (tt, h)
@@ -166,7 +154,7 @@ module _ (own : Timed → Bool) where
       → runs_behind b own (x ∷ (front ++ ys)) ≡ runs_behind b own (x ∷ (front ++ zs)) + 1
   front_runs b x [] ys zs fails one = runs_foreign own b x ys fails ∙ one ∙ ap (λ n. n + 1) (sym (runs_foreign own b x zs fails))
   front_runs b x (y ∷ front) ys zs fails one =
-      let rest = front_runs (own x) y front ys zs fails one in
+      let rest = front_runs (own x) y front ys zs (subst (λ o. IfSome o (λ t. own t ≡ false)) (last_cons x y front) fails) one in
       omega (arith, rest)
 
   -- there is one run more
@@ -178,21 +166,11 @@ module _ (own : Timed → Bool) where
 
 -- The last reading, without its rank.
 pub last_bare : (ts : List Timed) → bare_one (last_of ts) ≡ last_reading (bare ts)
-last_bare ts = got ts (length ts - 1) ∙ ap (λ n. slice_get (bare ts) (n - 1)) (sym (length-map ts (λ (t : Timed). t.1)))
-  where
-    got : (ts : List Timed) (n : ℕ) → bare_one (slice_get ts n) ≡ slice_get (bare ts) n
-    got [] n = refl
-    got (t ∷ ts) zero = refl
-    got (t ∷ ts) (suc n) = got ts n
+last_bare ts = sym (slice_get-map (λ (t : Timed). t.1) ts (length ts - 1)) ∙ ap (λ n. slice_get (bare ts) (n - 1)) (sym (length-map ts (λ (t : Timed). t.1)))
 
 pub first_bare : (ts : List Timed) → bare_one (first_of ts) ≡ first_reading (bare ts)
 first_bare [] = refl
 first_bare (t ∷ ts) = refl
-
-last_cons : (x y : Timed) (ys : List Timed) → last_of (x ∷ y ∷ ys) ≡ last_of (y ∷ ys)
-last_cons x y ys =
-    let a : length (x ∷ y ∷ ys) - 1 ≡ length (y ∷ ys) = omega arith in let b : length (y ∷ ys) - 1 ≡ length ys = omega arith in
-    ap (slice_get (x ∷ y ∷ ys)) a ∙ sym (ap (slice_get (y ∷ ys)) b)
 
 pub last-append : (xs ys : List Timed) (y : Timed) → last_of (xs ++ y ∷ ys) ≡ last_of (y ∷ ys)
 last-append [] ys y = refl

@@ -1,13 +1,8 @@
 -- One more live event, or less, moves what its transaction counts for.
-use Rattle.std.{proofs.lemmas.Bool.Decides.nat_tests, proofs.Common.{◌≡◌, ◌==◌, ℕ, ◌<◌, ◌≤◌, true, false, not, cond, ◌&&◌, List, [], ◌∷◌, Option, Some, None, length, map, refl, sym, ap, ◌∙◌, arith, length-append, slice_get, unwrap_or}, specs.List.{filter_map, flat_map}, proofs.lemmas.Bool.ne_eqb}
+use Rattle.std.{proofs.lemmas.Bool.Decides.nat_tests, proofs.Common.{◌≡◌, ◌==◌, ℕ, ◌<◌, ◌≤◌, true, false, not, cond, ◌&&◌, List, [], ◌∷◌, Option, Some, None, length, map, refl, sym, ap, ◌∙◌, arith, length-append}, specs.List.flat_map, proofs.lemmas.Bool.ne_eqb, proofs.lemmas.List.nil_from_length}
 use Rattle.energy_flow.specs.Flow.{Energy, no_energy, plus}
-use Rattle.ledger_model.{specs.declared.order.Order.Order, specs.declared.reading.Direction.Direction, specs.ByDirection.{in_direction, in_each}, specs.declared.by_direction.ByDirection.ByDirection, proofs.Directions.each_is, specs.Event.{MeterReading, toward}, specs.Complete.{is_complete, starts_and_ends}, specs.Content.{Entry, live, live_of, has_transaction}, specs.Deltas.{IsOneMore, flow_if, own_events}, specs.Energy.{energy_of_by, energy_over, flows_of_by, followed}, specs.Evse.{evse_of, energy_at_by, first_or_zero}, specs.Gaps.{numbers_of, missing}, specs.InTime.in_order, proofs.Callers.{events_more, transactions_more, complete_more, missing_more, energy_at_more, evse_counts, live_with, live_without, live_else, order-nil}}
+use Rattle.ledger_model.{specs.declared.order.Order.Order, specs.declared.reading.Direction.Direction, specs.ByDirection.in_direction, specs.declared.by_direction.ByDirection.ByDirection, proofs.Directions.each_is, specs.Event.{MeterReading, toward}, specs.Complete.{is_complete, starts_and_ends}, specs.Content.{Entry, live, live_of, has_transaction}, specs.Deltas.{IsOneMore, flow_if, own_events}, specs.Energy.{energy_of_by, energy_over, flows_of_by, followed}, specs.Evse.{evse_of, energy_at_by}, specs.Gaps.{numbers_of, missing}, specs.InTime.in_order, proofs.Callers.{events_more, transactions_more, complete_more, missing_more, energy_at_more, evse_counts, live_with, live_without, live_else, order-nil}}
 use Rattle.station_ledger.{specs.declared.standing.Standing.Standing, specs.Standing.{standing_with, kept_with, kept_of}, specs.Moved.{live_in, one_in, complete_in, missing_in, flows_in, one_at, flows_at, IsMoved}}
-
--- a list without elements
-pub none_long : {X : Type 0} (xs : List X) → length xs ≡ 0 → xs ≡ []
-none_long [] h = refl
-none_long (x ∷ xs) h = absurd (omega (arith, h))
 
 -- whether a transaction has an event, by how many it has
 pub has_own : (tx : List ℕ) (xs : List Entry) → has_transaction tx xs ≡ not (length (own_events tx xs) == 0)
@@ -16,12 +11,12 @@ has_own tx (e ∷ xs) = grind (arith, nat_tests, has_own tx xs)
 
 -- a transaction without a live event
 pub none_live : (tx : List ℕ) (es : List Entry) → has_transaction tx (live es) ≡ false → live_of tx es ≡ []
-none_live tx es none = grind (arith, nat_tests, none_long (live_of tx es), has_own tx (live es), none)
+none_live tx es none = grind (arith, nat_tests, nil_from_length (live_of tx es), has_own tx (live es), none)
 
 -- what is kept, where there is no live event and where there is
 kept_cases : (P : Option Standing → Type 0) (energy : ByDirection Energy) (tx : List ℕ) (es : List Entry) → (live_of tx es ≡ [] → P None)
     → (0 < length (live_of tx es) → P (Some (standing_with energy tx es))) → P (kept_with energy tx es)
-kept_cases P energy tx es none some = grind (arith, nat_tests, none_long (live_of tx es), none, some)
+kept_cases P energy tx es none some = grind (arith, nat_tests, nil_from_length (live_of tx es), none, some)
 
 module _ (order : Order) where
   pub live_kept : (tx : List ℕ) (es : List Entry) → live_in (kept_of order tx es) ≡ length (live_of tx es)
@@ -73,15 +68,7 @@ module _ (order : Order) where
 
   -- one live event less
   pub moved_back : (tx : List ℕ) (es new : List Entry) → IsMoved order tx es new → IsMoved order tx new es
-  moved_back tx es new m = record {
-    others = λ u apart. sym (m.others u apart);
-    events = sym m.events;
-    transactions = sym m.transactions;
-    complete = sym m.complete;
-    missing_are = sym m.missing_are;
-    at_evse = λ n. sym (m.at_evse n);
-    flow_at_evse = λ d n. sym (m.flow_at_evse d n);
-  }
+  moved_back tx es new m = search (sym, m.others, m.at_evse, m.flow_at_evse)
 
   -- the energies of what is kept
   pub flow_in_kept : (d : Direction) (tx : List ℕ) (es : List Entry) → in_direction d (flows_in (kept_of order tx es)) ≡ energy_of_by order d tx es
@@ -89,32 +76,12 @@ module _ (order : Order) where
       (λ none. grind (arith, energy_none d tx es none)) (λ _. toward_is d tx es)
 
 -- what is kept depends only on the transaction's live events
-kept_over : Order → List ℕ → List Entry → Option Standing
-kept_over order tx own = cond (length own == 0) None (Some (record {
-  first = unwrap_or (slice_get (map (λ e. e.0.seq) own) 0) 0;
-  live = length own;
-  evse = first_or_zero (filter_map (λ e. e.1.event.evse) own);
-  complete = starts_and_ends (map (λ e. e.1.event.kind) own) && (missing (map (λ e. e.0.seq) own) == 0);
-  missing = missing (map (λ e. e.0.seq) own);
-  energy = in_each (λ d. energy_over (followed (in_order order (λ r. r.moment) (flat_map (λ e. toward d e.1.event.readings) own))));
-}))
-
 pub kept_same : (order : Order) (u : List ℕ) (es new : List Entry) → live_of u new ≡ live_of u es → kept_of order u new ≡ kept_of order u es
-unfolding kept_over
-kept_same order u es new same = ap (kept_over order u) same
+kept_same order u es new same = rw same
 
 -- at most one
-pub one_in_le : (o : Option Standing) → one_in o ≤ 1
-one_in_le None = omega arith
-one_in_le (Some s) = omega arith
-
-pub complete_in_le : (o : Option Standing) → complete_in o ≤ 1
-complete_in_le None = omega arith
-complete_in_le (Some s) = grind arith
-
-pub one_at_le : (n : ℕ) (o : Option Standing) → one_at n o ≤ 1
-one_at_le n None = omega arith
-one_at_le n (Some s) = grind arith
+pub at_most_one : (n : ℕ) (o : Option Standing) → (one_in o ≤ 1) × (complete_in o ≤ 1) × (one_at n o ≤ 1)
+at_most_one n o = grind arith
 
 pub flow_at_le : (d : Direction) (n : ℕ) (o : Option Standing) → ((in_direction d (flows_at n o)).up ≤ (in_direction d (flows_in o)).up)
     × ((in_direction d (flows_at n o)).down ≤ (in_direction d (flows_in o)).down)

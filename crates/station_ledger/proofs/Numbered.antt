@@ -1,5 +1,5 @@
 -- Numbers of entries that are in range: of a transaction, and of its EVSE.
-use Rattle.std.{proofs.Common.{ℕ, ◌<◌, ◌≤◌, Bool, not, List, [], ◌∷◌, Option, map, arith}, specs.List.{cons_option, filter, filter_map}, specs.Str.bytes_eq, specs.Prelude.IfSome}
+use Rattle.std.{proofs.Common.{ℕ, ◌<◌, ◌≤◌, Bool, not, List, [], ◌∷◌, map, arith}, specs.List.{filter, filter_map}, specs.Str.bytes_eq}
 use Rattle.ledger_model.{specs.Board.last_or_zero, specs.Content.{Entry, live, live_of}, specs.Evse.{evse_of, first_or_zero}, specs.Gaps.numbers_of, specs.Ranges.{greatest_evse, sequence_end}, proofs.Callers.AreEntries}
 use Rattle.station_ledger.specs.Numbered.{AreNumbered}
 
@@ -24,12 +24,9 @@ highest_few [] h = omega arith
 highest_few (e ∷ []) h = h.0.sequence
 highest_few (e ∷ f ∷ es) h = highest_few (f ∷ es) h.1
 
-named_first : (o : Option ℕ) (ns : List ℕ) → IfSome o (λ number. number ≤ greatest_evse) → first_or_zero ns ≤ greatest_evse → first_or_zero (cons_option o ns) ≤ greatest_evse
-named_first o ns le rest = grind (arith, le, rest)
-
 named_few : (es : List Entry) → AreNumbered es → first_or_zero (filter_map (λ (e : Entry). e.1.event.evse) es) ≤ greatest_evse
 named_few [] h = omega arith
-named_few (e ∷ es) h = named_first e.1.event.evse (filter_map (λ (f : Entry). f.1.event.evse) es) h.0.evse (named_few es h.1)
+named_few (e ∷ es) h = grind (arith, h.0.evse, named_few es h.1)
 
 -- the lowest and the highest live number
 pub first_few : (tx : List ℕ) (es : List Entry) → AreNumbered es → first_or_zero (numbers_of tx es) < sequence_end

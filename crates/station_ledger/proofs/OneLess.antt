@@ -1,5 +1,5 @@
 -- What is kept of a transaction, when one more live event comes.
-use Rattle.std.{proofs.lemmas.Bool.Decides.nat_tests, proofs.Common.{◌≡◌, ◌==◌, ℕ, ◌+◌, ◌<◌, ◌≤◌, Bool, true, false, cond, List, [], ◌∷◌, ◌++◌, Option, None, Some, IfSome, length, map, slice_get, unwrap_or, refl, sym, ap, ◌∙◌, subst, arith, length-append}, specs.List.filter_map, proofs.lemmas.List.{length-map, map-append}}
+use Rattle.std.{proofs.lemmas.Bool.Decides.nat_tests, proofs.Common.{◌≡◌, ℕ, ◌+◌, ◌<◌, ◌≤◌, true, false, List, [], ◌∷◌, ◌++◌, Option, None, Some, IfSome, length, map, slice_get, unwrap_or, option_map, refl, sym, ap, ◌∙◌, subst, arith, length-append, inl, inr, ◌⊎◌}, specs.List.filter_map, proofs.lemmas.List.{length-map, map-append}}
 use Rattle.energy_flow.specs.Flow.{Energy}
 use Rattle.ledger_model.{specs.declared.by_direction.ByDirection.ByDirection, specs.Board.last_or_zero, specs.BoardLaws.AreRising, specs.Content.{Entry, Stored, live_of}, specs.Deltas.{own_events, before_key, behind_key}, specs.Event.EventContent, specs.Evse.first_or_zero, specs.Gaps.{numbers_of, missing}, specs.Key.KeyName, proofs.Callers.{live_with, live_without}, proofs.GapLemmas.missing-fills}
 use Rattle.event_chain.{specs.Chains.{Chained, stored}, specs.declared.around.Sides.Sides}
@@ -33,26 +33,24 @@ others_rise [] n ms up = grind (arith, up)
 others_rise (k ∷ []) n ms up = grind (arith, up)
 others_rise (k ∷ j ∷ ns) n ms up = (up.0, others_rise (j ∷ ns) n ms up.1)
 
+-- A number behind the first leaves the last where it was, or is the last.
+ends : (k : ℕ) (front : List ℕ) (n : ℕ) (back : List ℕ) → AreRising (k ∷ front ++ n ∷ back)
+    → ((last_or_zero (k ∷ front ++ n ∷ back) ≡ last_or_zero (k ∷ front ++ back)) × (n < last_or_zero (k ∷ front ++ back)))
+    ⊎ ((last_or_zero (k ∷ front ++ n ∷ back) ≡ n) × (last_or_zero (k ∷ front ++ back) < n))
+ends k front n [] up = inr (last_both (k ∷ front) n [], last_below k front n up)
+ends k front n (m ∷ back) up =
+    let before = last_both (k ∷ front) m back in let high = last_above n m back (back_rises (k ∷ front) n (m ∷ back) up) in
+    inl (last_both (k ∷ front) n (m ∷ back) ∙ sym before, omega (arith, before, high))
+
 -- What is missing, by a number behind the first: it was missing, or it comes last.
 filled : (front back : List ℕ) (n f : ℕ) → AreRising (front ++ n ∷ back) → slice_get (front ++ n ∷ back) 0 ≡ Some f → f < n
     → (n < f + length (front ++ back) + missing (front ++ back) → missing (front ++ n ∷ back) + 1 ≡ missing (front ++ back))
     × (f + length (front ++ back) + missing (front ++ back) ≤ n → missing (front ++ n ∷ back) + (f + length (front ++ back) + missing (front ++ back)) ≡ missing (front ++ back) + n)
 filled [] back n f up first lt = absurd (omega (arith, (first_is (n ∷ back) f first).0, lt))
-filled (k ∷ front) [] n f up first lt =
-    let now = missing-fills (k ∷ front ++ n ∷ []) up (omega arith) in
-    let was = missing-fills (k ∷ front ++ []) (others_rise (k ∷ front) n [] up) (omega arith) in
-    let same = (first_is (k ∷ front ++ n ∷ []) f first).0 in
-    let last = last_both (k ∷ front) n [] in let low = last_below k front n up in
-    let long = length-append front (n ∷ []) in let short = length-append front [] in
-    ((λ le. omega (arith, now, was, same, last, low, long, short, le, lt)), (λ le. omega (arith, now, was, same, last, low, long, short, le, lt)))
-filled (k ∷ front) (m ∷ back) n f up first lt =
-    let now = missing-fills (k ∷ front ++ n ∷ m ∷ back) up (omega arith) in
-    let was = missing-fills (k ∷ front ++ m ∷ back) (others_rise (k ∷ front) n (m ∷ back) up) (omega arith) in
-    let same = (first_is (k ∷ front ++ n ∷ m ∷ back) f first).0 in
-    let last = last_both (k ∷ front) n (m ∷ back) in let before = last_both (k ∷ front) m back in
-    let high = last_above n m back (back_rises (k ∷ front) n (m ∷ back) up) in
-    let long = length-append front (n ∷ m ∷ back) in let short = length-append front (m ∷ back) in
-    ((λ le. omega (arith, now, was, same, last, before, high, long, short, le, lt)), (λ le. omega (arith, now, was, same, last, before, high, long, short, le, lt)))
+filled (k ∷ front) back n f up first lt =
+    let now = missing-fills (k ∷ front ++ n ∷ back) up (omega arith) in let was = missing-fills (k ∷ front ++ back) (others_rise (k ∷ front) n back up) (omega arith) in
+    let same = (first_is (k ∷ front ++ n ∷ back) f first).0 in let end = ends k front n back up in
+    omega (arith, now, was, same, end, length-append front (n ∷ back), length-append front back)
 
 -- A number behind the first of some leaves it the first.
 keeps_first : (front back : List ℕ) (n f : ℕ) → AreRising (front ++ n ∷ back) → f ≡ unwrap_or (slice_get (front ++ back) 0) 0
@@ -66,13 +64,9 @@ passed : (front : List Entry) (e : Entry) (back : List Entry) → e.1.event.evse
 passed [] e back none = grind (arith, none)
 passed (f ∷ front) e back none = grind (arith, passed front e back none)
 
--- What is kept, where something is.
-kept_is : (energy : ByDirection Energy) (tx : List ℕ) (es : List Entry) (was : Standing) → Some was ≡ kept_with energy tx es → was ≡ standing_with energy tx es
-kept_is energy tx es was h = grind (arith, h)
-
--- Only a transaction with a live event has a standing.
-some_kept : (n : ℕ) (s was : Standing) → Some was ≡ cond (n == 0) None (Some s) → 0 < n
-some_kept n s was h = grind (arith, nat_tests, h)
+-- What is kept, where something is: there is a live event.
+kept_is : (energy : ByDirection Energy) (tx : List ℕ) (es : List Entry) (was : Standing) → Some was ≡ kept_with energy tx es → (was ≡ standing_with energy tx es) × (0 < length (live_of tx es))
+kept_is energy tx es was h = grind (arith, nat_tests, h)
 
 -- The standing of a transaction, compared with its events after one more has come that names no EVSE.
 one_less : (es : List Entry) (chains : Chained) (key : KeyName) (place : ByDirection Sides) (come : IsTurning Coming es chains key place)
@@ -81,7 +75,7 @@ one_less : (es : List Entry) (chains : Chained) (key : KeyName) (place : ByDirec
 one_less es chains key place come none up energy was kept =
     let new = stored chains in let tx = key.tx in let e : Entry = (key, come.event) in let front = before_key key es in let back = behind_key key es in
     let own = own_events tx front in let rest = own_events tx back in
-    let is = kept_is energy tx es was kept in
+    let some = kept_is energy tx es was kept in let is = some.0 in
     let with = live_with es new front e back come.one in let without = live_without es new front e back come.one in
     let seq_of = λ (x : Entry). x.0.seq in
     let now : numbers_of tx new ≡ map seq_of own ++ key.seq ∷ map seq_of rest = ap (map seq_of) with ∙ map-append seq_of own (e ∷ rest) in
@@ -89,19 +83,16 @@ one_less es chains key place come none up energy was kept =
     let lives : was.live ≡ length (map seq_of own ++ map seq_of rest) = ap (λ (s : Standing). s.live) is ∙ sym (length-map (live_of tx es) seq_of) ∙ ap length before in
     let gone : was.missing ≡ missing (map seq_of own ++ map seq_of rest) = ap (λ (s : Standing). s.missing) is ∙ ap missing before in
     let rises = subst AreRising now up in
+    let fills = λ (first : ℕ) (at : slice_get (numbers_of tx new) 0 ≡ Some first). filled (map seq_of own) (map seq_of rest) key.seq first rises (ap (λ ns. slice_get ns 0) (sym now) ∙ at) in
     record {
       live = omega (arith, ap length with, length-append own (e ∷ rest), ap (λ (s : Standing). s.live) is, ap length without, length-append own rest);
       first = λ lt. ap (λ ns. slice_get ns 0) now
           ∙ keeps_first (map seq_of own) (map seq_of rest) key.seq was.first rises (ap (λ (s : Standing). s.first) is ∙ ap (λ ns. unwrap_or (slice_get ns 0) 0) before)
-          (omega (arith, lives, ap (λ (s : Standing). s.live) is, some_kept (length (live_of tx es)) (standing_with energy tx es) was kept)) lt;
+          (omega (arith, lives, ap (λ (s : Standing). s.live) is, some.1)) lt;
       evse = ap (λ xs. first_or_zero (filter_map (λ (x : Entry). x.1.event.evse) xs)) with ∙ ap first_or_zero (passed own e rest none)
           ∙ sym (ap (λ (s : Standing). s.evse) is ∙ ap (λ xs. first_or_zero (filter_map (λ (x : Entry). x.1.event.evse) xs)) without);
-      within = λ first at lt le. let so =
-          (filled (map seq_of own) (map seq_of rest) key.seq first rises (ap (λ ns. slice_get ns 0) (sym now) ∙ at) lt).0
-          (omega (arith, le, lives, gone)) in omega (arith, so, ap missing now, gone);
-      beyond = λ first at lt le. let so =
-          (filled (map seq_of own) (map seq_of rest) key.seq first rises (ap (λ ns. slice_get ns 0) (sym now) ∙ at) lt).1
-          (omega (arith, le, lives, gone)) in omega (arith, so, ap missing now, gone, lives);
+      within = λ first at lt le. let so = (fills first at lt).0 (omega (arith, le, lives, gone)) in omega (arith, so, ap missing now, gone);
+      beyond = λ first at lt le. let so = (fills first at lt).1 (omega (arith, le, lives, gone)) in omega (arith, so, ap missing now, gone, lives);
     }
 
 -- The EVSE that a stored event names.
@@ -117,11 +108,5 @@ all_less way es chains key place turning up tx seq tx_is seq_is energy None kept
 all_less Coming es chains key place come up tx seq tx_is seq_is energy (Some was) kept event has none =
     subst (λ t. IsOneLess was t seq (stored chains)) (sym tx_is) (subst (λ n. IsOneLess was key.tx n (stored chains)) (sym seq_is)
     (one_less es chains key place come (ap evse_in (sym come.there ∙ has) ∙ none) up energy was (kept ∙ ap (λ t. kept_with energy t es) tx_is)))
-all_less Going es chains key place go up tx seq tx_is seq_is energy (Some was) kept event has none = absurd (live (ap voided_in (sym go.there ∙ has)))
-  where
-    voided_in : Option Stored → Bool
-    voided_in None = false
-    voided_in (Some s) = s.voided
-
-    live : true ≡ false → ⊥
-    live f = cc
+all_less Going es chains key place go up tx seq tx_is seq_is energy (Some was) kept event has none = absurd
+    (let e : true ≡ false = ap (λ (o : Option Stored). unwrap_or (option_map (λ (s : Stored). s.voided) o) true) (sym go.there ∙ has) in cc)

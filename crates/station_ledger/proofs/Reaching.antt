@@ -1,6 +1,6 @@
 -- What reached events are allowed to be, and what an accepted command reaches.
 use Rattle.std.{proofs.Common.{◌≡◌, ℕ, suc, ◌+◌, ◌≤◌, List, [], ◌∷◌, Some, length, refl, sym, ap, subst, ◌∙◌, arith}, specs.FinMap.find}
-use Rattle.ledger_model.{specs.declared.answer.Answer.Answer, specs.declared.answer.Answer.TheVariants.Accepted, specs.declared.command.Command.Command, specs.declared.order.Order.Order, specs.Admissible.IsAdmissible, specs.Content.{Content, Entry, Stored, entries}, specs.Key.{KeyName, key_cmp}, specs.Laws.IsAccepted, specs.Limits.Bounds, specs.Ranges.{most_event_readings, most_events, most_readings, most_transactions}, specs.Step.{Reached, answer, content_after, events_after, step}, proofs.Callers.{AreEntries, AreKept-reached, figures_within, is_counted}, proofs.NumberLemmas.numbers-AreRising}
+use Rattle.ledger_model.{specs.declared.answer.Answer.TheVariants.Accepted, specs.declared.command.Command.Command, specs.declared.order.Order.Order, specs.Admissible.IsAdmissible, specs.Content.{Content, Entry, Stored, entries}, specs.Key.{KeyName, key_cmp}, specs.Laws.IsAccepted, specs.Limits.Bounds, specs.Ranges.{most_event_readings, most_events, most_readings, most_transactions}, specs.Step.{Reached, answer, content_after, events_after, step}, proofs.Callers.{AreEntries, AreKept-reached, figures_within, is_counted}, proofs.NumberLemmas.numbers-AreRising}
 use Rattle.event_chain.specs.Chains.{Chained, stored}
 use Rattle.station_ledger.{specs.declared.sums.Sums.Sums, specs.Kept.{CanDo, IsDone, IsKept, IsReady, content_in}, specs.Numbered.AreNumbered, specs.Sums.{AreAllowed, AreSummed, order_in}, proofs.Numbered.numbered, proofs.Timely.pairs_in_time}
 use Rattle.std.specs.FinMap as finite
@@ -27,18 +27,13 @@ module _ (order : Order) (limits : Bounds) (transactions : limits.transactions �
         most_readings_within = readings;
       }
 
-told : (a : Answer) (m : ℕ) → a ≡ Accepted m → IsAccepted a
-told a m h = subst IsAccepted (sym h) tt
-
-same_number : (a : Answer) (m n : ℕ) → a ≡ Accepted m → a ≡ Accepted n → m ≡ n
-same_number a m n h k = let e : Accepted m ≡ Accepted n = sym h ∙ k in cc
-
 -- an accepted command reaches its content
 pub reached_next : (limits : Bounds) (c : Content) (n m : ℕ) (command : Command) → c.changes ≡ n → IsAdmissible command
     → Reached limits n c → answer limits c command ≡ Accepted m
     → Reached limits m (record { events = events_after c.events command; changes = m })
 reached_next limits c n m command count may reached a =
-    let next : m ≡ suc n = (let e = same_number _ m (c.changes + 1) a (is_counted limits c command (told _ m a)).next in omega (arith, e, count)) in
+    let counted : Accepted m ≡ Accepted (c.changes + 1) = sym a ∙ (is_counted limits c command (subst IsAccepted (sym a) tt)).next in
+    let same : m ≡ c.changes + 1 = cc in let next : m ≡ suc n = omega (arith, same, count) in
     let after : Content = record { events = events_after c.events command; changes = m } in
     let taken : step limits c command ≡ (after, Accepted (suc n)) = λ i. (content_after c command (a i), (a ∙ ap Accepted next) i) in
     let P : ℕ → Type 0 = λ k. Reached limits k after in
@@ -62,24 +57,12 @@ module _ {limits : Bounds} {chains : Chained} {changes : ℕ} {sums : Sums} (k :
     kept_next = reached_next limits (content_in chains changes) changes m command refl may k.reached a
 
     pub can_do : IsReady chains command → CanDo command chains sums
-    can_do ready = record {
-      ready = ready;
-      before = kept_allowed;
-      after = subst (λ b. AreAllowed (order_in sums) b (finite.entries (events_after chains.events command))) (sym k.limits_are)
-          (allowed (order_in sums) limits k.few_transactions k.few_events k.few_readings m (record { events = events_after chains.events command; changes = m }) kept_next);
-      summed = kept_summed;
-      voided = k.voided_are;
-    }
+    can_do ready =
+        let then = allowed (order_in sums) limits k.few_transactions k.few_events k.few_readings m (record { events = events_after chains.events command; changes = m }) kept_next in
+        let after = subst (λ b. AreAllowed (order_in sums) b (finite.entries (events_after chains.events command))) (sym k.limits_are) then in
+        assumption (ready, kept_allowed, after, kept_summed)
 
     pub kept_after : {new : Chained} {next : Sums} → IsDone command chains new sums next → IsKept limits new m next
     kept_after {new} {next} done =
-        let same = done.limits ∙ k.limits_are in
-        record {
-          limits_are = same;
-          reached = subst (Reached limits m) (sym (λ i. record { events = done.events i; changes = m })) kept_next;
-          summed = subst (λ b. AreSummed b (stored new) next) same done.summed;
-          voided_are = done.voided;
-          few_transactions = k.few_transactions;
-          few_events = k.few_events;
-          few_readings = k.few_readings;
-        }
+        let same = done.limits ∙ k.limits_are in let summed = subst (λ b. AreSummed b (stored new) next) same done.summed in
+        let reached = subst (Reached limits m) (sym (λ i. record { events = done.events i; changes = m })) kept_next in assumption (same, reached, summed)

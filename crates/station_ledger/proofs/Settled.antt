@@ -1,40 +1,10 @@
 -- All sums after the pairs of one event came or went.
-use Rattle.std.{proofs.Common.{◌≡◌, ℕ, List, Option, None, Some, IfSome, sym, ap, subst, ◌∙◌, arith}, specs.FinMap.find}
+use Rattle.std.{proofs.Common.{◌≡◌, ℕ, List, Option, IfSome, sym, ap, subst, ◌∙◌, arith}, specs.FinMap.find}
 use Rattle.energy_flow.specs.Flow.{Energy, plus}
-use Rattle.ledger_model.{specs.Periods.Periods, specs.ByDirection.{in_direction, in_each, plus_flows, minus_flows}, proofs.Directions.each_is, specs.declared.by_direction.ByDirection.ByDirection, specs.declared.order.Order.TheVariants.Sequence, specs.declared.reading.Direction.Direction, specs.declared.reading.Direction.TheVariants.{Import, Export}, specs.Content.Entry, specs.Energy.{Pair, energy_by, energy_of_by, flows_of_by}, specs.Key.KeyName, specs.Limits.Bounds}
+use Rattle.ledger_model.{specs.ByDirection.{in_direction, in_each, plus_flows, minus_flows}, proofs.Directions.each_is, specs.declared.by_direction.ByDirection.ByDirection, specs.declared.reading.Direction.Direction, specs.declared.reading.Direction.TheVariants.{Import, Export}, specs.Content.Entry, specs.Energy.{energy_by, energy_of_by, flows_of_by}, specs.Key.KeyName, specs.Limits.Bounds}
 use Rattle.event_chain.{specs.Chains.{Chained, stored}, specs.declared.around.Sides.Sides}
-use Rattle.quarter_table.specs.Table.{Table}
-use Rattle.transaction_map.specs.Map.{Mapped, id_cmp}
-use Rattle.station_ledger.{specs.declared.pairs.Way.Way, specs.declared.pairs.Way.TheVariants.{Coming, Going}, specs.declared.standing.Standing.Standing, specs.declared.sums.Sums.Sums, specs.ByMoment.AreByMoment, specs.Moved.{CanExchange, IsExchanged, IsMoved, flows_in}, specs.Quarters.{HasRoom, HoldsBoth, IsSumOf, IsTableMoved, both_length, both_quartered}, specs.Standing.{kept_of, kept_with}, specs.Sums.{AreAllowed, AreCounts, AreEvseSums, ArePairsMoved, AreQuarterRows, AreStanding, AreSummed, AreTurning, CanReplace, IsReplaced, order_in, order_of}, proofs.Bounded.{own_within, IsWithin}, proofs.Changes.{IsChange, turned_moved}, proofs.Stands.{own_flow, was_kept, place, stands, room_at, counts_at, sums_stand, have_room, do_count, counts_stand}, proofs.Trades.{station_exchanged, own_exchanged, exchanged_once, holds, room, filled}}
-
--- what follows from what holds of a value, if there is one
-pub if_some : {X : Type 0} {P Q : X → Type 0} (o : Option X) → ((x : X) → P x → Q x) → IfSome o P → IfSome o Q
-if_some None then h = tt
-if_some (Some x) then h = then x h
-
--- by sequence
-module _ {limits : Bounds} {tx : List ℕ} {es new : List Entry} {gone came : Direction → List Pair} {most : ℕ} (ch : IsChange limits tx es new gone came most) where
-  -- the pairs that go are in the table, and there is room for those that come
-  module _ {period : Periods} {quarters : Table} (rows : AreQuarterRows Sequence limits es period quarters) where
-    pub gone_held : HoldsBoth period gone quarters
-    gone_held = holds limits tx es new gone came ch.kept ch.traded ch.before ch.after period quarters rows
-
-    pub came_room : {left : Table} → IsTableMoved Going (both_quartered period gone) quarters left → HasRoom (both_length came) left
-    came_room taken = room limits tx es new gone came ch.kept ch.traded ch.before ch.after period quarters rows taken (omega (arith, ch.few_came Import, ch.few_came Export))
-
-    pub table_filled : {left next : Table} → IsTableMoved Going (both_quartered period gone) quarters left → IsTableMoved Coming (both_quartered period came) left next
-        → AreQuarterRows Sequence limits new period next
-    table_filled taken put = filled limits tx es new gone came ch.kept ch.traded ch.before ch.after period quarters rows taken put
-
-  -- and what both add up to is what the energies exchange
-  pub exchanged : {less more : ByDirection Energy} → ((d : Direction) → IsSumOf (gone d) (in_direction d less))
-      → ((d : Direction) → IsSumOf (came d) (in_direction d more)) → IsExchanged Sequence tx es new less more
-  exchanged less_is more_is = record {
-    station = λ d. station_exchanged d (ch.traded d) (less_is d).is (more_is d).is;
-    own = λ d. own_exchanged d (ch.traded d) (less_is d).is (more_is d).is;
-    up_few = λ d. let m = more_is d in omega (arith, m.up, ch.few_came d);
-    down_few = λ d. let m = more_is d in omega (arith, m.down, ch.few_came d);
-  }
+use Rattle.transaction_map.specs.Map.{id_cmp}
+use Rattle.station_ledger.{specs.declared.pairs.Way.Way, specs.declared.standing.Standing.Standing, specs.declared.sums.Sums.Sums, specs.ByMoment.AreByMoment, specs.Moved.{CanExchange, IsExchanged, IsMoved, flows_in}, specs.Standing.{kept_of, kept_with}, specs.Sums.{AreAllowed, AreCounts, AreEvseSums, ArePairsMoved, AreQuarterRows, AreStanding, AreSummed, AreTurning, CanReplace, IsReplaced, order_in, order_of}, proofs.Bounded.{own_within, IsWithin}, proofs.Changes.turned_moved, proofs.Moved.flow_in_kept, proofs.Stands.{place, stands, room_at, counts_at, sums_stand, have_room, do_count, counts_stand}, proofs.Trades.exchanged_once}
 
 -- The sums of events, in either order, and what they occur once the pairs of one event were moved, which comes or
 -- goes.
@@ -50,19 +20,11 @@ module _ {tx : List ℕ} {es : List Entry} {chains : Chained} {key : KeyName} {p
     {less more : ByDirection Energy} (tx_is : tx ≡ key.tx) (after : AreAllowed (order_in sums) chains.limits (stored chains))
     (energies : IsExchanged (order_in sums) key.tx es (stored chains) less more) (pairs : ArePairsMoved sums mid) where
   pub turned : {way : Way} → AreTurning way es chains key place sums → AreTurned chains.limits tx es (stored chains) sums mid less more
-  turned {way = way} h = record {
-    moved = turned_moved tx_is (order_in sums) way h.turning;
-    before = h.allowed;
-    after = after;
-    summed = h.summed;
-    energies = subst (λ t. IsExchanged (order_in sums) t es (stored chains) less more) (sym tx_is) energies;
-    pairs = pairs;
-  }
+  turned {way = way} h =
+      let moved = turned_moved tx_is (order_in sums) way h.turning in
+      let own = subst (λ t. IsExchanged (order_in sums) t es (stored chains) less more) (sym tx_is) energies in assumption (moved, own)
 
 module _ {limits : Bounds} {tx : List ℕ} {es new : List Entry} {sums mid : Sums} {less more : ByDirection Energy} (x : AreTurned limits tx es new sums mid less more) where
-  all_was : (d : Direction) → in_direction d mid.energies ≡ energy_by (order_in sums) d es
-  all_was d = ap (λ (e : ByDirection Energy). in_direction d e) x.pairs.energies ∙ x.summed.energies_are d
-
   -- what the pairs move of energies of which no more than the station's are in a direction
   exchange : {energies : ByDirection Energy} (was now : Direction → Energy) → ((d : Direction) → in_direction d energies ≡ was d)
       → ((d : Direction) → IsWithin (was d) (energy_by (order_in sums) d es))
@@ -77,13 +39,14 @@ module _ {limits : Bounds} {tx : List ℕ} {es new : List Entry} {sums mid : Sum
 
   -- the station's energies
   pub all_may : CanExchange mid.energies less more × (minus_flows (plus_flows mid.energies more) less ≡ in_each (λ d. energy_by (order_in sums) d new))
-  all_may = exchange (λ d. energy_by (order_in sums) d es) (λ d. energy_by (order_in sums) d new) all_was (λ d. record { up = omega arith; down = omega arith }) x.energies.station
+  all_may = exchange (λ d. energy_by (order_in sums) d es) (λ d. energy_by (order_in sums) d new) (λ d. ap (in_direction d) x.pairs.energies ∙ x.summed.energies_are d)
+      (λ d. record { up = omega arith; down = omega arith }) x.energies.station
 
   -- the transaction's
   module _ {was : Option Standing} (was_is : was ≡ find id_cmp tx sums.kept.rows) {own : ByDirection Energy} (own_is : own ≡ flows_in was) where
     pub own_may : CanExchange own less more × (minus_flows (plus_flows own more) less ≡ flows_of_by (order_in sums) tx new)
     own_may = exchange (λ d. energy_of_by (order_in sums) d tx es) (λ d. energy_of_by (order_in sums) d tx new)
-        (λ d. ap (in_direction d) own_is ∙ own_flow (order_in sums) d limits es tx sums.kept was was_is x.summed.standing)
+        (λ d. ap (in_direction d) own_is ∙ ap (λ o. in_direction d (flows_in o)) (was_is ∙ x.summed.standing.each tx) ∙ flow_in_kept (order_in sums) d tx es)
         (λ d. own_within (order_in sums) d tx es) x.energies.own
 
     -- what is kept of it, in all sums
@@ -92,7 +55,7 @@ module _ {limits : Bounds} {tx : List ℕ} {es new : List Entry} {sums mid : Sum
       is_kept = is_with ∙ ap (λ e. kept_with e tx new) (left_is ∙ own_may.1)
 
       was_at : was ≡ kept_of (order_in sums) tx es
-      was_at = was_kept (order_in sums) limits tx es new x.moved x.before x.after was is is_kept sums.kept x.summed.standing was_is
+      was_at = was_is ∙ x.summed.standing.each tx
 
       kept_stands : AreStanding (order_in sums) limits es mid.kept
       kept_stands = subst (AreStanding (order_in sums) limits es) (sym x.pairs.kept) x.summed.standing
@@ -103,12 +66,9 @@ module _ {limits : Bounds} {tx : List ℕ} {es new : List Entry} {sums mid : Sum
       counts_were : AreCounts es mid.figures
       counts_were = subst (AreCounts es) (sym x.pairs.figures) x.summed.counts
 
-      was_found : was ≡ find id_cmp tx mid.kept.rows
-      was_found = was_is ∙ ap (λ (k : Mapped Standing). find id_cmp tx k.rows) (sym x.pairs.kept)
-
       pub can_replace : {energies : ByDirection Energy} → CanReplace tx (record { was = was; is = is }) (record mid { energies = energies })
       can_replace = record {
-        place = place (order_in sums) limits tx es new x.moved x.before x.after was is is_kept mid.kept kept_stands was_found;
+        place = place (order_in sums) limits tx es new x.moved x.before x.after was is is_kept mid.kept kept_stands;
         all = evses_stand.all;
         room_at = room_at (order_in sums) limits tx es new x.moved x.before x.after was is is_kept was_at mid.evses.items evses_stand;
         counts_at = counts_at (order_in sums) limits tx es new x.moved x.before x.after was is is_kept was_at mid.evses.items evses_stand;
@@ -123,7 +83,7 @@ module _ {limits : Bounds} {tx : List ℕ} {es new : List Entry} {sums mid : Sum
           let same = sym (ap order_of r.by_moment ∙ x.pairs.order) in
           record {
             standing = subst (λ o. AreStanding o limits new next.kept) same
-                (stands (order_in sums) limits tx es new x.moved x.before x.after was is is_kept mid.kept kept_stands was_found next.kept r.kept r.room);
+                (stands (order_in sums) limits tx es new x.moved x.before x.after was is is_kept mid.kept kept_stands next.kept r.kept r.room);
             at_evses = subst (λ o. AreEvseSums o new next.evses.items) same
                 (sums_stand (order_in sums) limits tx es new x.moved x.before x.after was is is_kept was_at mid.evses.items evses_stand next.evses.items r.all r.evses);
             by_quarter = subst (λ o. AreQuarterRows o limits new next.period next.quarters) same

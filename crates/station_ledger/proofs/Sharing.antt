@@ -1,10 +1,10 @@
 -- What a board finds of readings that are shared by time.
-use Rattle.std.{proofs.lemmas.Bool.Decides.nat_tests, proofs.Common.{◌≡◌, ℕ, ◌+◌, ◌<◌, Bool, true, cond, T, List, [], ◌∷◌, ◌++◌, Option, None, Some, length, map, append-nil, refl, sym, ap, ◌∙◌, arith, slice_get, take, drop, not, append_assoc, ◌⊎◌}, specs.List.{AllByRecursion, filter, flat_map}, specs.FinMap.find, specs.FinMap.Entries.below_all, specs.Prelude.slice_index, specs.Str.bytes_eq, proofs.lemmas.Grind.flat_map-append, proofs.lemmas.List.{flat_map_more, map-append, take_more}, proofs.lemmas.Option.{get_or_from_slice_get, slice_get_within}, proofs.lemmas.Slice.Eq.bytes_eq-Decides}
+use Rattle.std.{proofs.lemmas.Bool.Decides.nat_tests, proofs.Common.{◌≡◌, ℕ, ◌+◌, Bool, true, cond, T, List, [], ◌∷◌, ◌++◌, Option, None, Some, length, map, append-nil, refl, sym, ap, ◌∙◌, arith, slice_get, take, not, append_assoc}, specs.List.{AllByRecursion, filter, flat_map}, specs.FinMap.find, specs.FinMap.Entries.below_all, specs.Str.bytes_eq, proofs.lemmas.Grind.flat_map-append, proofs.lemmas.List.{flat_map_more, map-append, nil_from_length, take_more}, proofs.lemmas.Option.{get_or_from_slice_get, slice_get_within}, proofs.lemmas.Slice.Eq.bytes_eq-Decides}
 use Rattle.std.specs.FinMap as finite
 use Rattle.event_chain.{specs.Table.{Table, row_of}, specs.Chains.{Chained, stored}, specs.Room.readings_under, proofs.Decided.key_test}
-use Rattle.ledger_model.{specs.InTime.in_time, specs.Limits.Bounds, specs.declared.order.Order.Order, specs.declared.order.Order.TheVariants.{Sequence, Moment}, specs.declared.reading.Direction.TheVariants.{Import, Export}, specs.Content.{Entry, live, live_of}, specs.Deltas.{across, pairs_between}, specs.Energy.{Pair, followed, parts_of, parts_over, readings_by}, specs.Entries.IsRising, specs.Event.{MeterReading, toward}, specs.Gaps.numbers_of, specs.Key.key_cmp, specs.declared.reading.Direction.Direction, proofs.Callers.{find_below, first, in_time-map, second}, specs.ByDirection.flows_toward, specs.Parts.Part, specs.declared.settle.Settle.Settle, specs.declared.settle.Settle.TheVariants.{Later, Closing, Even}}
+use Rattle.ledger_model.{specs.InTime.in_time, specs.Limits.Bounds, specs.declared.order.Order.Order, specs.declared.order.Order.TheVariants.{Sequence, Moment}, specs.declared.reading.Direction.TheVariants.{Import, Export}, specs.Content.{Entry, live, live_of}, specs.Deltas.{across, pairs_between}, specs.Energy.{Pair, followed, parts_of, parts_over, readings_by}, specs.Entries.IsRising, specs.Event.{MeterReading, toward}, specs.Gaps.numbers_of, specs.Key.key_cmp, specs.declared.reading.Direction.Direction, proofs.Callers.{find_below, first, in_time-map, second}, specs.ByDirection.flows_toward, specs.Parts.Part}
 use Rattle.quarter_table.{proofs.Several.{made_with, rows_with-append}, specs.declared.row.QuarterRow.QuarterRow, specs.Pairs.{parts_toward, rows_of, rows_with}}
-use Rattle.station_ledger.{specs.ByMoment.AreSlots, specs.Listing.{placed, placed_by, placed_from}, specs.Numbered.{AreNumbered, AreNumbers}, specs.Quarters.readings_at, specs.Shares.{evenly, with_shares}, proofs.Moved.none_long, proofs.Numbered.live_numbered}
+use Rattle.station_ledger.{specs.ByMoment.AreSlots, specs.Listing.{placed, placed_by, placed_from}, specs.Numbered.{AreNumbered, AreNumbers}, specs.Quarters.readings_at, specs.Shares.{evenly, with_shares}}
 use Rattle.reading_index.specs.declared.placed.PlacedReading.{PlacedReading}
 
 -- Shares of more pairs are added behind those of the first.
@@ -78,17 +78,9 @@ module _ {X : Type 0} (made : ℕ → List MeterReading → List X) where
       ∙ read_each d tx es (live es) (found_passed (λ (e : Entry). not e.1.voided) es es (all_found es (finite.entries_sorted chains.events)))
 
 -- The numbers of entries are those of events.
-numbers_each : (es : List Entry) → AreNumbered es → AreNumbers (map (λ (e : Entry). e.0.seq) es)
+pub numbers_each : (es : List Entry) → AreNumbered es → AreNumbers (map (λ (e : Entry). e.0.seq) es)
 numbers_each [] h = tt
 numbers_each (e ∷ es) h = (h.0.sequence, numbers_each es h.1)
-
-pub walk_numbers : (tx : List ℕ) (es : List Entry) → AreNumbered es → AreNumbers (numbers_of tx es)
-walk_numbers tx es h = numbers_each (live_of tx es) (live_numbered tx es h)
-
--- The next number of a walk, and the rest.
-pub next_number : (was rest : List ℕ) (n : ℕ) → 0 < length was → n ≡ slice_index was 0 → rest ≡ drop 1 was → was ≡ n ∷ rest
-next_number [] rest n some is after = absurd (omega (arith, some))
-next_number (m ∷ was) rest n some is after = λ i. sym is i ∷ sym after i
 
 -- The readings of one number more are listed.
 pub walked : {X : Type 0} (reads : ℕ → List X) (was rest : List ℕ) (n : ℕ) (done next all : List X) → was ≡ n ∷ rest
@@ -113,7 +105,7 @@ placed_readings Moment d tx es =
 
 -- A transaction without a slot has no reading by moment.
 pub none_in_time : (d : Direction) (tx : List ℕ) (limits : Bounds) (es : List Entry) (slots : Table) → AreSlots limits es slots → row_of tx slots.rows ≡ None → placed_by Moment d tx es ≡ []
-none_in_time d tx limits es slots are none = grind (arith, nat_tests, none_long (live_of tx es), are.each tx, none)
+none_in_time d tx limits es slots are none = grind (arith, nat_tests, nil_from_length (live_of tx es), are.each tx, none)
 
 -- The rows of both directions, one after the other.
 pub rows_shared : (length : ℕ) (ps qs : List Pair) (rows next : List QuarterRow) → rows ≡ with_shares length Import ps [] → next ≡ with_shares length Export qs rows
@@ -121,7 +113,3 @@ pub rows_shared : (length : ℕ) (ps qs : List Pair) (rows next : List QuarterRo
 rows_shared length ps qs rows next one two =
     let imported = parts_toward Import (parts_over (evenly length) ps) in let exported = parts_toward Export (parts_over (evenly length) qs) in
     two ∙ ap (with_shares length Export qs) one ∙ sym (rows_with-append imported exported []) ∙ made_with (imported ++ exported) [] ∙ ap rows_of (append-nil (imported ++ exported))
-
--- By two of the rules nothing is shared.
-pub not_even : (rule : Settle) → (rule ≡ Later) ⊎ (rule ≡ Closing) → rule ≡ Even → ⊥
-not_even rule one even = grind (arith, one, even)

@@ -3,7 +3,7 @@ use Rattle.std.{proofs.Common.{◌≡◌, ℕ, ◌+◌, ◌-◌, ◌<◌, ◌≤
 use Rattle.energy_flow.specs.Flow.{Energy, plus, minus, CanPlus, CanMinus}
 use Rattle.ledger_model.{proofs.EnergyLemmas.same_energy, specs.declared.figures.Figures.Figures, specs.ByDirection.in_direction, specs.Content.{Entry, live, transactions_of}, specs.Energy.energy_of_by, specs.Evse.{energy_at_by, transactions_at}, specs.declared.order.Order.Order, specs.declared.reading.Direction.Direction, specs.declared.reading.Direction.TheVariants.{Import, Export}, specs.Limits.Bounds, specs.Ranges.greatest_evse}
 use Rattle.transaction_map.{specs.Map.{Mapped, AreRising, id_cmp}, proofs.Rising.{equal_ids, id_total}, proofs.Found.{found_put, found_out, rising_put, rising_out, length_put, length_out}}
-use Rattle.station_ledger.{specs.declared.standing.Standing.Standing, specs.declared.totals.EvseSum.EvseSum, specs.Standing.kept_of, specs.Moved.{live_in, one_in, complete_in, missing_in, flows_in, one_at, flows_at, IsMoved, sum_at, with_one, without_one, with_figures, without_figures, HasRoomAt, CountsAt, HaveRoom, DoCount}, specs.Sums.{AreStanding, AreEvseSums, AreCounts, AreAllowed, keep}, proofs.Moved.{live_kept, missing_kept, flow_in_kept, kept_same, one_in_le, complete_in_le, one_at_le, flow_at_le}, proofs.Bounded.{at_evse_le, evse_le, few_energy, few_station, live_le, own_missing_le, own_within}}
+use Rattle.station_ledger.{specs.declared.standing.Standing.Standing, specs.declared.totals.EvseSum.EvseSum, specs.Standing.kept_of, specs.Moved.{one_in, flows_in, one_at, flows_at, IsMoved, sum_at, with_one, without_one, with_figures, without_figures, HasRoomAt, CountsAt, HaveRoom, DoCount}, specs.Sums.{AreStanding, AreEvseSums, AreCounts, AreAllowed, keep}, proofs.Moved.{live_kept, missing_kept, flow_in_kept, kept_same, at_most_one, flow_at_le}, proofs.Bounded.{at_evse_le, evse_le, few_energy, few_station, live_le, own_missing_le, own_within}}
 
 -- what is found where a transaction's row was written or taken out
 found_keep : (u tx : List ℕ) (o : Option Standing) (rows : List (List ℕ × Standing)) → find id_cmp u (keep tx o rows) ≡ cond (eq_by_cmp id_cmp u tx) o (find id_cmp u rows)
@@ -17,10 +17,7 @@ apart_ids u tx e = grind (arith, e, bytes_eq-Decides u tx, (eq_by_cmp_equiv id_t
 module _ (order : Order) (limits : Bounds) (tx : List ℕ) (es new : List Entry) (moved : IsMoved order tx es new)
     (before : AreAllowed order limits es) (after : AreAllowed order limits new) (was is : Option Standing)
     (is_is : is ≡ kept_of order tx new) where
-  module _ (kept : Mapped Standing) (standing : AreStanding order limits es kept) (was_is : was ≡ find id_cmp tx kept.rows) where
-    pub was_kept : was ≡ kept_of order tx es
-    was_kept = was_is ∙ standing.each tx
-
+  module _ (kept : Mapped Standing) (standing : AreStanding order limits es kept) where
     pub place : find id_cmp tx kept.rows ≡ None → (is ≡ None → ⊥) → length kept.rows < kept.capacity
     place none some =
         let gone : one_in (kept_of order tx es) ≡ 0 = ap one_in (sym (standing.each tx) ∙ none) in
@@ -55,14 +52,11 @@ module _ (order : Order) (limits : Bounds) (tx : List ℕ) (es new : List Entry)
       room_for d n =
           let here = evse_le order d n es in let all = few_station order d limits es before in let at = flow_at_le d n is in
           let own = own_within order d tx new in let then = few_energy order d limits new after in
-          record {
-            up = omega (arith, here.up, all.up, at.0, ap (λ (e : Energy). e.up) (flow_is d), own.up, then.up, before.most_readings_within);
-            down = omega (arith, here.down, all.down, at.1, ap (λ (e : Energy). e.down) (flow_is d), own.down, then.down, before.most_readings_within);
-          }
+          omega (arith, here, all, at, ap (λ (e : Energy). e.up) (flow_is d), ap (λ (e : Energy). e.down) (flow_is d), own, then, before.most_readings_within)
 
       pub room_at : (n : ℕ) → n ≤ greatest_evse → HasRoomAt n is (sum_at evses n)
       room_at n le = subst (HasRoomAt n is) (sym (sums.each n le)) (record {
-        number = omega (arith, at_evse_le n es, before.figures_within.transactions, before.most_transactions_within, one_at_le n is);
+        number = omega (arith, at_evse_le n es, before.figures_within.transactions, before.most_transactions_within, (at_most_one n is).2);
         energy = record { import = room_for Import n; export = room_for Export n };
       })
 
@@ -97,32 +91,10 @@ module _ (order : Order) (limits : Bounds) (tx : List ℕ) (es new : List Entry)
 
     module _ (f : Figures) (counts : AreCounts es f) where
       pub have_room : HaveRoom is f
-      have_room = record {
-        events = omega (arith, counts.events, before.figures_within.events, before.most_events_within, ap live_in is_is, live_kept order tx new, live_le tx new, after.figures_within.events);
-        transactions = omega (arith, counts.transactions, before.figures_within.transactions, before.most_transactions_within, one_in_le is);
-        complete = omega (arith, counts.complete, before.figures_within.complete, before.most_transactions_within, complete_in_le is);
-        missing_fit =
-            let now = ap missing_in is_is ∙ missing_kept order tx new in
-            omega (arith, counts.missing_are, before.figures_within.missing, before.most_transactions_within, now, own_missing_le tx new, after.figures_within.missing);
-      }
+      have_room = grind (arith, live_kept order tx new, live_le tx new, at_most_one 0 is, missing_kept order tx new, own_missing_le tx new)
 
       pub do_count : DoCount was (with_figures is f)
-      do_count = record {
-        events = omega (arith, counts.events, moved.events, ap live_in is_is, ap live_in was_at);
-        transactions = omega (arith, counts.transactions, moved.transactions, ap one_in is_is, ap one_in was_at);
-        complete = omega (arith, counts.complete, moved.complete, ap complete_in is_is, ap complete_in was_at);
-        missing_fit = omega (arith, counts.missing_are, moved.missing_are, ap missing_in is_is, ap missing_in was_at);
-      }
+      do_count = grind arith
 
       pub counts_stand : (next : Figures) → next ≡ without_figures was (with_figures is f) → AreCounts new next
-      counts_stand next same = record {
-        events = omega (arith, ap (λ (g : Figures). g.events) same, counts.events, moved.events, ap live_in is_is, ap live_in was_at);
-        transactions = omega (arith, ap (λ (g : Figures). g.transactions) same, counts.transactions, moved.transactions, ap one_in is_is, ap one_in was_at);
-        complete = omega (arith, ap (λ (g : Figures). g.complete) same, counts.complete, moved.complete, ap complete_in is_is, ap complete_in was_at);
-        missing_are = omega (arith, ap (λ (g : Figures). g.missing) same, counts.missing_are, moved.missing_are, ap missing_in is_is, ap missing_in was_at);
-      }
-
--- the energy of what was kept
-pub own_flow : (order : Order) (d : Direction) (limits : Bounds) (es : List Entry) (tx : List ℕ) (kept : Mapped Standing) (was : Option Standing)
-    → was ≡ find id_cmp tx kept.rows → AreStanding order limits es kept → in_direction d (flows_in was) ≡ energy_of_by order d tx es
-own_flow order d limits es tx kept was was_is standing = ap (λ o. in_direction d (flows_in o)) (was_is ∙ standing.each tx) ∙ flow_in_kept order d tx es
+      counts_stand next same = grind arith

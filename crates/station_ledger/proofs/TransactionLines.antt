@@ -1,5 +1,5 @@
 -- The lines of the transactions from what is kept of each.
-use Rattle.std.{proofs.lemmas.Bool.Decides.nat_tests, proofs.Common.{◌≡◌, ℕ, zero, suc, ◌+◌, ◌-◌, ◌<◌, true, T, List, [], ◌∷◌, ◌++◌, Some, is_some, unwrap_or, length, map, take, slice_get, refl, sym, ap, subst, ◌∙◌, arith}, specs.List.{AllByRecursion, filter, list_any}, specs.List.Sorted.IsStrictlySortedBy, specs.Str.bytes_eq, specs.Ordering.{eq_by_cmp, is_lt}, specs.declared.cmp.Ordering.TheVariants.Less, specs.FinMap.find, specs.FinMap.Entries.below_all, proofs.lemmas.List.map_more, proofs.lemmas.Option.{get_or_from_slice_get, slice_get_within}, proofs.lemmas.Slice.Eq.bytes_eq-Decides}
+use Rattle.std.{proofs.lemmas.Bool.Decides.nat_tests, proofs.Common.{◌≡◌, ℕ, suc, ◌+◌, ◌-◌, ◌<◌, true, T, List, [], ◌∷◌, ◌++◌, Some, is_some, unwrap_or, length, map, take, slice_get, refl, sym, ap, subst, ◌∙◌, arith}, specs.List.{AllByRecursion, filter, list_any}, specs.List.Sorted.IsStrictlySortedBy, specs.Str.bytes_eq, specs.Ordering.is_lt, specs.declared.cmp.Ordering.TheVariants.Less, specs.FinMap.find, specs.FinMap.Entries.below_all, proofs.lemmas.List.map_more, proofs.lemmas.Map.Keys.any_passes_from_place, proofs.lemmas.Option.{get_or_from_slice_get, slice_get_within}, proofs.lemmas.Slice.Eq.bytes_eq-Decides}
 use Rattle.event_chain.specs.Chains.{Chained, stored}
 use Rattle.ledger_model.{specs.Board.last_or_zero, specs.Content.{Entry, live, transactions_of, has_transaction}, specs.declared.order.Order.Order, specs.Energy.flows_of_by, specs.Evse.first_or_zero, specs.Limits.Bounds, proofs.Rising.both, proofs.TransactionLemmas.{transactions-any, transactions_rise}}
 use Rattle.transaction_map.{specs.Map.{Mapped, AreRising, id_cmp}, proofs.Found.same_ids, proofs.Rising.{equal_ids, same_id}}
@@ -23,12 +23,9 @@ bare_rise [] h = tt
 bare_rise (t ∷ ts) h = both _ _ (bare_below t ts h.0) (bare_rise ts h.1)
 
 -- both tests distinguish ids
-same_test : (q t : List ℕ) → eq_by_cmp id_cmp q t ≡ bytes_eq q t
-same_test q t = grind (arith, bytes_eq-Decides q t, equal_ids q t, same_id t)
-
 bare_found : (q : List ℕ) (ts : List (List ℕ)) → is_some (find id_cmp q (bare ts)) ≡ list_any (bytes_eq q) ts
 bare_found q [] = refl
-bare_found q (t ∷ ts) = grind (arith, bare_found q ts, same_test q t)
+bare_found q (t ∷ ts) = grind (arith, bare_found q ts, bytes_eq-Decides q t, equal_ids q t, same_id t)
 
 -- a transaction with an event has some
 some_own : (tx : List ℕ) (es : List Entry) → has_transaction tx es ≡ true → 0 < length (filter (λ (e : Entry). bytes_eq tx e.0.tx) es)
@@ -38,12 +35,6 @@ some_own tx (e ∷ es) h = grind (arith, some_own tx es, h)
 -- it is kept just where it has a live event
 kept_has : (order : Order) (tx : List ℕ) (es : List Entry) → is_some (kept_of order tx es) ≡ has_transaction tx (live es)
 kept_has order tx es = grind (arith, nat_tests, some_own tx (live es), none_live tx es)
-
--- an id at a place is one of them
-is_any : (ts : List (List ℕ)) (n : ℕ) (tx : List ℕ) → slice_get ts n ≡ Some tx → list_any (bytes_eq tx) ts ≡ true
-is_any [] n tx h = cc
-is_any (t ∷ ts) zero tx h = grind (arith, bytes_eq-Decides tx t, h)
-is_any (t ∷ ts) (suc n) tx h = grind (arith, is_any ts n tx h)
 
 module _ (order : Order) (limits : Bounds) (c : Chained) (kept : Mapped Standing) (standing : AreStanding order limits (stored c) kept) where
   -- the ids that are kept are those of the transactions with a live event
@@ -58,7 +49,7 @@ module _ (order : Order) (limits : Bounds) (c : Chained) (kept : Mapped Standing
   pub found_at : (n : ℕ) (tx : List ℕ) → slice_get (map (λ (r : List ℕ × Standing). r.0) kept.rows) n ≡ Some tx → find id_cmp tx kept.rows ≡ Some (standing_by order tx (stored c))
   found_at n tx at =
       let es = stored c in
-      let any = is_any (transactions_of (live es)) n tx (ap (λ ts. slice_get ts n) (sym kept_ids) ∙ at) in
+      let any = any_passes_from_place (bytes_eq tx) (transactions_of (live es)) n tx (ap (λ ts. slice_get ts n) (sym kept_ids) ∙ at) ((bytes_eq-Decides tx tx).1 refl) in
       standing.each tx ∙ sym (kept_some (flows_of_by order tx es) tx es (some_own tx (live es) (sym (transactions-any tx (live es)) ∙ any)))
 
 -- the lines with that of the next id

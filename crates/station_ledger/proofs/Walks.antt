@@ -1,13 +1,9 @@
 -- Pairs along readings, one reading after the other.
-use Rattle.std.{proofs.Common.{◌≡◌, ℕ, ◌+◌, ◌*◌, ◌<◌, ◌≤◌, List, [], ◌∷◌, ◌++◌, length, drop, get_or, refl, sym, ap, ◌∙◌, arith, length-append}, proofs.lemmas.List.{map-append, append_assoc}, proofs.lemmas.List.Sums.sum_by-append}
+use Rattle.std.{proofs.Common.{◌≡◌, ℕ, ◌+◌, ◌*◌, ◌≤◌, List, [], ◌∷◌, ◌++◌, length, drop, get_or, take, ◌-◌, refl, sym, ap, ◌∙◌, arith, length-append}, proofs.lemmas.List.{drop_more, map-append, append_assoc, take_rest}, proofs.lemmas.List.Sums.sum_by-append, specs.List.sum_by}
 use Rattle.energy_flow.specs.Flow.{Energy, plus}
 use Rattle.ledger_model.{proofs.EnergyLemmas.same_energy, specs.Periods.Periods, specs.Board.Flowed, specs.Energy.{Pair, difference, energy_over, quarter_of}, specs.ByDirection.flows_toward, specs.declared.reading.Direction.Direction, specs.Event.{MeterReading, toward}, specs.Ranges.greatest_reading}
 use Rattle.quarter_table.{specs.declared.row.QuarterRow.QuarterRow, specs.Rows.{row_at, set_row, without_pair}, specs.Pairs.{rows_of, rows_without}, specs.Table.Table, proofs.Several.rows_with-append}
 use Rattle.station_ledger.{specs.declared.pairs.Way.Way, specs.declared.pairs.Way.TheVariants.{Coming, Going}, specs.Quarters.{DidMove, MayMove, quartered, rows_moved}, proofs.Rows.{room_fewer, rows_more, rows_less}}
-
--- the pairs of several more readings add up
-pub energy_over-append : (ps qs : List Pair) → energy_over (ps ++ qs) ≡ plus (energy_over ps) (energy_over qs)
-energy_over-append ps qs = same_energy _ _ (sum_by-append (λ p. (difference p).up) ps qs) (sum_by-append (λ p. (difference p).down) ps qs)
 
 pub quartered-append : (period : Periods) (d : Direction) (ps qs : List Pair) → quartered period d (ps ++ qs) ≡ quartered period d ps ++ quartered period d qs
 quartered-append period d ps qs = map-append (λ p. (quarter_of period p, flows_toward d (difference p))) ps qs
@@ -18,13 +14,11 @@ rows_without-append (f ∷ fs) gs rows = rows_without-append fs gs (set_row (wit
 
 -- elements with a first one
 pub first_and_rest : {X : Type 0} (left rest : List X) (r d : X) → 1 ≤ length left → r ≡ get_or left 0 d → rest ≡ drop 1 left → left ≡ r ∷ rest
-first_and_rest [] rest r d some is after = absurd (omega (arith, some))
-first_and_rest (x ∷ left) rest r d some is after = λ i. sym is i ∷ sym after i
+first_and_rest left rest r d some is after = drop_more left 0 d some ∙ (λ i. sym is i ∷ sym after i)
 
--- or with none
-pub empty : {X : Type 0} (xs : List X) → length xs < 1 → xs ≡ []
-empty [] h = refl
-empty (x ∷ xs) h = absurd (omega (arith, h))
+-- as a pattern takes them apart
+pub first_and_more : {X : Type 0} (left : List X) (r : X) → 1 ≤ length left → r ≡ get_or left 0 r → left ≡ r ∷ take (length left - 1) (drop 1 left)
+first_and_more left r some is = first_and_rest left (take (length left - 1) (drop 1 left)) r r some is (take_rest left 1)
 
 -- those of the direction of the first one
 pub toward_first : (d : Direction) (left rest : List MeterReading) (r : MeterReading) → left ≡ r ∷ rest → r.direction ≡ d → toward d left ≡ r ∷ toward d rest
@@ -52,9 +46,9 @@ length_is one more split = ap length split ∙ length-append one more
 energy_is : {left : List Pair} (one more : List Pair) (sum flow next : Energy) → left ≡ one ++ more → flow ≡ energy_over one
     → next ≡ plus sum flow → plus next (energy_over more) ≡ plus sum (energy_over left)
 energy_is {left = left} one more sum flow next split is put =
-    let all = ap energy_over split ∙ energy_over-append one more in
-    same_energy _ _ (omega (arith, ap (λ (e : Energy). e.up) all, ap (λ (e : Energy). e.up) is, ap (λ (e : Energy). e.up) put))
-    (omega (arith, ap (λ (e : Energy). e.down) all, ap (λ (e : Energy). e.down) is, ap (λ (e : Energy). e.down) put))
+    let all = λ (f : Pair → ℕ). ap (sum_by f) split ∙ sum_by-append f one more in
+    same_energy _ _ (omega (arith, all (λ p. (difference p).up), ap (λ (e : Energy). e.up) is, ap (λ (e : Energy). e.up) put))
+    (omega (arith, all (λ p. (difference p).down), ap (λ (e : Energy). e.down) is, ap (λ (e : Energy). e.down) put))
 
 quartered_is : (period : Periods) (d : Direction) {left : List Pair} (one more : List Pair) → left ≡ one ++ more → quartered period d left ≡ quartered period d one ++ quartered period d more
 quartered_is period d one more split = ap (quartered period d) split ∙ quartered-append period d one more

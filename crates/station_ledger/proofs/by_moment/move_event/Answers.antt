@@ -2,7 +2,7 @@ use Rattle.std.proofs.Common.{◌≡◌, ◌<◌, ◌≤◌, Some, None, length,
 use Rattle.energy_flow.specs.Flow.{Energy}
 use Rattle.event_chain.{specs.Chains.stored, specs.Table.{Table, row_of, without_row}}
 use Rattle.ledger_model.{specs.Content.live_of, specs.Ranges.most_event_readings, specs.declared.by_direction.ByDirection.ByDirection, specs.declared.order.Order.TheVariants.Moment, specs.declared.reading.Direction.TheVariants.{Import, Export}}
-use Rattle.station_ledger.{specs.declared.by_moment.ByMoment.ByMoment, specs.ByMoment.IsSlotGiven, specs.Moved.IsExchanged, specs.Runs.by_way, proofs.MomentTurning.{all_then, few_readings, first_move, room_for_slot, rows_then, second_move, some_live, timed_then, work_then}, proofs.by_moment.move_event.Goals.After-slot_of-slot}
+use Rattle.station_ledger.{specs.declared.by_moment.ByMoment.ByMoment, specs.ByMoment.IsSlotGiven, specs.Moved.IsExchanged, specs.Runs.by_way, proofs.MomentSides.{can_move, few_listed}, proofs.MomentTurning.{all_then, first_step, room_for_slot, rows_then, second_step, some_live, timed_then, work_then}, proofs.by_moment.move_event.Goals.After-slot_of-slot}
 use Rattle.station_ledger.proofs.by_moment.move_event.Goals as goal
 
 pub slot_of-slot-requires : goal.slot_of-slot-requires
@@ -15,17 +15,18 @@ given : (c : After-slot_of-slot) → IsSlotGiven c.args.key.now.tx c.args.by_mom
 given c = subst (λ tx. IsSlotGiven tx c.args.by_moment.now.slots c.slot_of-slot.new.slots c.slot_of-slot.result) c.tx-tx.ensures c.slot_of-slot.ensures.given
 
 pub list-requires-clause-few : goal.list-requires-clause-few
-list-requires-clause-few c = few_readings c.requires.2 (given (goal.at.list-requires-clause-few c).After-slot_of-slot) Import
+list-requires-clause-few c = few_listed c.requires.2 c.slot_of-slot.result Import
 
 pub move_listed-import-requires : goal.move_listed-import-requires
-move_listed-import-requires c = first_move c.requires.2 (given (goal.at.move_listed-import-requires c).After-slot_of-slot) c.list.ensures.items
+move_listed-import-requires c = can_move c.requires.2 _ (first_step c.requires.2 (given (goal.at.move_listed-import-requires c).After-slot_of-slot)) c.list.ensures.items
 
 pub list-requires-2-clause-few : goal.list-requires-2-clause-few
-list-requires-2-clause-few c = few_readings c.requires.2 (given (goal.at.list-requires-2-clause-few c).After-slot_of-slot) Export
+list-requires-2-clause-few c = few_listed c.requires.2 c.slot_of-slot.result Export
 
 pub move_listed-export-requires : goal.move_listed-export-requires
 move_listed-export-requires c =
-    second_move c.requires.2 (given (goal.at.move_listed-export-requires c).After-slot_of-slot) c.list.ensures.items c.move_listed-import.ensures.moved c.list-2.ensures.items
+    let g = given (goal.at.move_listed-export-requires c).After-slot_of-slot in
+    can_move c.requires.2 _ (second_step c.requires.2 g c.list.ensures.items c.move_listed-import.ensures.moved) c.list-2.ensures.items
 
 pub free_slot-requires-clause-there : goal.free_slot-requires-clause-there
 free_slot-requires-clause-there c = λ none.
@@ -36,30 +37,20 @@ free_slot-requires-clause-there c = λ none.
 pub free_slot-requires-clause-lives : goal.free_slot-requires-clause-lives
 free_slot-requires-clause-lives c = λ comes none. some_live c.requires.2 comes (sym (ap (λ tx. length (live_of tx (stored c.args.chains.now))) c.tx-tx.ensures) ∙ none)
 
-pub returns-clause-exchanged : goal.returns-clause-exchanged
-returns-clause-exchanged c less more is =
-    let all = all_then is (given (goal.at.returns-clause-exchanged c).After-slot_of-slot) c.list.ensures.items c.move_listed-import.ensures.moved c.list-2.ensures.items
-    c.move_listed-export.ensures.moved in
-    subst (λ (m : ByDirection Energy). IsExchanged Moment c.args.key.now.tx (by_way c.args.way less more) (stored c.args.chains.now) c.exchange_of.result.less m) (sym c.exchange_of.ensures.more)
-    (subst (λ (m : ByDirection Energy). IsExchanged Moment c.args.key.now.tx (by_way c.args.way less more) (stored c.args.chains.now)
-    m (record { import = c.move_listed-import.result.more; export = c.move_listed-export.result.more }))
-    (sym c.exchange_of.ensures.less) all)
-
-pub returns-clause-rows : goal.returns-clause-rows
-returns-clause-rows c =
-    rows_then c.requires.2 (given (goal.at.returns-clause-rows c).After-slot_of-slot) c.list.ensures.items c.move_listed-import.ensures.moved c.list-2.ensures.items c.move_listed-export.ensures.moved
-
-pub returns-clause-timed : goal.returns-clause-timed
-returns-clause-timed c =
+pub returns : goal.returns
+returns c =
+    let g = given (goal.at.returns c).After-slot_of-slot in let imported = c.list.ensures.items in let exported = c.list-2.ensures.items in
+    let first = c.move_listed-import.ensures.moved in let second = c.move_listed-export.ensures.moved in
     let slots = c.move_listed-export.ensures.slots ∙ c.move_listed-import.ensures.slots in
     let after : ByMoment = record { slots = c.free_slot.new.slots; index = c.move_listed-export.new.by_moment.index; listed = c.move_listed-export.new.by_moment.listed } in
     let counted = ap (λ tx. length (live_of tx (stored c.args.chains.now))) c.tx-tx.ensures in
-    timed_then c.requires.2 (given (goal.at.returns-clause-timed c).After-slot_of-slot) c.list.ensures.items c.move_listed-import.ensures.moved c.list-2.ensures.items
-    c.move_listed-export.ensures.moved after c.slot_of-slot.ensures.slotted.apart c.slot_of-slot.ensures.slotted.rising
-    (λ some. ap (λ (s : Table). s.rows) (c.free_slot.ensures.kept (λ none. some (sym counted ∙ none)) ∙ slots))
-    (λ none. c.free_slot.ensures.rows (counted ∙ none) ∙ (λ i. without_row (c.tx-tx.ensures i) (slots i).rows))
-    (c.free_slot.ensures.capacity ∙ ap (λ (s : Table). s.capacity) slots) refl (subst (λ n. most_event_readings ≤ n) (sym c.move_listed-export.ensures.room) c.list-2.ensures.room)
-
-pub returns-clause-work : goal.returns-clause-work
-returns-clause-work c less more is =
-    work_then is (given (goal.at.returns-clause-work c).After-slot_of-slot) c.list.ensures.items c.move_listed-import.ensures.moved c.list-2.ensures.items c.move_listed-export.ensures.moved
+    record {
+      exchanged = λ less more is. subst (λ (m : ByDirection Energy × ByDirection Energy). IsExchanged Moment c.args.key.now.tx (by_way c.args.way less more) (stored c.args.chains.now) m.0 m.1)
+          (sym (λ i. (c.exchange_of.ensures.less i, c.exchange_of.ensures.more i))) (all_then is g imported first exported second);
+      rows = rows_then c.requires.2 g imported first exported second;
+      timed = timed_then c.requires.2 g imported first exported second after c.slot_of-slot.ensures.slotted.apart c.slot_of-slot.ensures.slotted.rising
+          (λ some. ap (λ (s : Table). s.rows) (c.free_slot.ensures.kept (λ none. some (sym counted ∙ none)) ∙ slots))
+          (λ none. c.free_slot.ensures.rows (counted ∙ none) ∙ (λ i. without_row (c.tx-tx.ensures i) (slots i).rows))
+          (c.free_slot.ensures.capacity ∙ ap (λ (s : Table). s.capacity) slots) refl (subst (λ n. most_event_readings ≤ n) (sym c.move_listed-export.ensures.room) c.list-2.ensures.room);
+      work = λ less more is. work_then is g imported first exported second;
+    }

@@ -1,7 +1,8 @@
-use Rattle.std.proofs.Common.{ℕ, List, length, refl, sym, ◌≤◌, ◌∙◌}
+use Rattle.std.{proofs.Common.{ℕ, List, length, refl, sym, ◌≤◌, ◌∙◌, arith}, proofs.lemmas.List.nil_from_length}
 use Rattle.ledger_model.{specs.Board.Flowed, specs.Ranges.most_readings}
-use Rattle.reading_index.specs.Timed.{owned}
-use Rattle.station_ledger.{specs.Quarters.HoldsPairs, specs.Runs.{run_pairs, came_of, gap_of, gone_of, AreSwapped, AreToMove, HasRoomWithout}, proofs.Walks.empty, proofs.MomentRuns.{at_turn, turn_few, turn_held, turn_less, turn_more, turn_next, turn_of, turn_room, turn_smaller, turning_by, turning_end, turning_start, turning_work, IsTurn}, proofs.by_moment.replace_runs.Goals.{After-split_at, After-replace_run-moved}}
+use Rattle.event_chain.specs.declared.around.Sides.{Sides}
+use Rattle.reading_index.specs.Timed.{Timed, owned}
+use Rattle.station_ledger.{specs.Quarters.HoldsPairs, specs.Runs.{run_pairs, came_of, gap_of, gone_of, AreSwapped, AreToMove, HasRoomWithout}, proofs.MomentRuns.{at_turn, turn_few, turn_held, turn_less, turn_more, turn_next, turn_of, turn_room, turn_smaller, turning_by, turning_end, turning_start, turning_work, IsTurn}, proofs.by_moment.replace_runs.Goals.{After-split_at, After-replace_run-moved}}
 use Rattle.station_ledger.proofs.by_moment.replace_runs.Goals as goal
 
 pub loop-left-init : goal.loop-left-init
@@ -22,23 +23,15 @@ swapped : (c : After-replace_run-moved) → AreSwapped c.args.period c.args.dire
 swapped c = at_turn (λ g x y. AreSwapped c.args.period c.args.direction (run_pairs g x) (run_pairs g y) c.loop-left.quarters c.replace_run-moved.new.quarters c.loop-left.work
     c.replace_run-moved.new.work c.replace_run-moved.result) c.gap_of-gap.ensures c.parts.ensures.gone c.parts.ensures.came c.replace_run-moved.ensures
 
-pub replace_run-moved-requires-clause-holds : goal.replace_run-moved-requires-clause-holds
-replace_run-moved-requires-clause-holds c =
-    let a = c.requires.3 in let h = c.loop-left.invariant.moving _ _ _ a in
-    at_turn (λ g x y. HoldsPairs c.args.period c.args.direction (run_pairs g x) c.loop-left.quarters) (sym c.gap_of-gap.ensures) (sym c.parts.ensures.gone) (sym c.parts.ensures.came)
-    (turn_held (turn (goal.at.replace_run-moved-requires-clause-holds c).After-split_at a) a c.loop-left.invariant.capacity refl h)
-
-pub replace_run-moved-requires-clause-few : goal.replace_run-moved-requires-clause-few
-replace_run-moved-requires-clause-few c =
-    let a = c.requires.3 in let h = c.loop-left.invariant.moving _ _ _ a in
-    at_turn (λ g x y. length (run_pairs g x) ≤ most_readings) (sym c.gap_of-gap.ensures) (sym c.parts.ensures.gone) (sym c.parts.ensures.came)
-    (turn_few (turn (goal.at.replace_run-moved-requires-clause-few c).After-split_at a) a c.loop-left.invariant.capacity refl h)
-
-pub replace_run-moved-requires-clause-room : goal.replace_run-moved-requires-clause-room
-replace_run-moved-requires-clause-room c =
-    let a = c.requires.3 in let h = c.loop-left.invariant.moving _ _ _ a in
-    at_turn (λ g x y. HasRoomWithout c.args.period c.args.direction (run_pairs g x) (length (run_pairs g y)) c.loop-left.quarters) (sym c.gap_of-gap.ensures) (sym c.parts.ensures.gone)
-    (sym c.parts.ensures.came) (turn_room (turn (goal.at.replace_run-moved-requires-clause-room c).After-split_at a) a c.loop-left.invariant.capacity refl h)
+pub replace_run-moved-requires : goal.replace_run-moved-requires
+replace_run-moved-requires c =
+    let a = c.requires.3 in let h = c.loop-left.invariant.moving _ _ _ a in let t = turn (goal.at.replace_run-moved-requires c).After-split_at a in let cap = c.loop-left.invariant.capacity in
+    let moved = λ (P : Sides → List Timed → List Timed → Type 0). at_turn P (sym c.gap_of-gap.ensures) (sym c.parts.ensures.gone) (sym c.parts.ensures.came) in
+    record {
+      holds = moved (λ g x y. HoldsPairs c.args.period c.args.direction (run_pairs g x) c.loop-left.quarters) (turn_held t a cap refl h);
+      few = moved (λ g x y. length (run_pairs g x) ≤ most_readings) (turn_few t a cap refl h);
+      room = moved (λ g x y. HasRoomWithout c.args.period c.args.direction (run_pairs g x) (length (run_pairs g y)) c.loop-left.quarters) (turn_room t a cap refl h);
+    }
 
 pub plus-less-requires : goal.plus-less-requires
 plus-less-requires c =
@@ -67,5 +60,5 @@ loop-left-preserved c =
 pub returns-clause-moved : goal.returns-clause-moved
 returns-clause-moved c = λ o seq rest a.
     let h = c.loop-left.invariant.moving o seq rest a in
-    let none = empty c.loop-left.left.now c.in_default.len_below in
+    let none = nil_from_length c.loop-left.left.now (omega (arith, c.in_default.len_below)) in
     record { moved = turning_end a h none; work = turning_work a h none }

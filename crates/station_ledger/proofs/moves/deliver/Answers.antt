@@ -17,20 +17,19 @@ turn_event-requires-clause-turns c = (stored c.args.chains.now, turning (goal.at
 pub turn_event-requires-clause-own : goal.turn_event-requires-clause-own
 turn_event-requires-clause-own c = delivered_there c.args.chains.now c.admit-around.new.self c.args.key.now c.args.event.now c.admit-around.ensures.events
 
-pub returns-clause-done : goal.returns-clause-done
-returns-clause-done c =
-    let e = c.admit-around.ensures in
+pub returns : goal.returns
+returns c =
+    let old = c.args.chains.now in let new = c.admit-around.new.self in let key = c.args.key.now in let event = c.args.event.now in let e = c.admit-around.ensures in let t = c.turn_event.ensures in
+    let voided = sym (delivered_voided old new key event e.events c.requires.ready.0) in let spends = delivered_spends old new key (order_in c.args.sums.now) event e.events in
+    let work = t.work (stored old) (turning (goal.at.returns c).After-look_near) in
     record {
-      limits = e.limits;
-      events = e.events;
-      summed = c.turn_event.ensures.summed;
-      period = c.turn_event.ensures.period;
-      order = c.turn_event.ensures.order;
-      voided = c.turn_event.ensures.voided ∙ c.requires.voided ∙ sym (delivered_voided c.args.chains.now c.admit-around.new.self c.args.key.now c.args.event.now e.events c.requires.ready.0);
+      done = record {
+        limits = e.limits;
+        events = e.events;
+        summed = t.summed;
+        period = t.period;
+        order = t.order;
+        voided = t.voided ∙ c.requires.voided ∙ voided;
+      };
+      work = omega (arith, work, spends);
     }
-
-pub returns-clause-work : goal.returns-clause-work
-returns-clause-work c =
-    let old = c.args.chains.now in let new = c.admit-around.new.self in let key = c.args.key.now in let event = c.args.event.now in let e = c.admit-around.ensures.events in
-    let work = c.turn_event.ensures.work (stored old) (turning (goal.at.returns-clause-work c).After-look_near) in
-    record { bound = omega (arith, work.bound, delivered_spends (order_in c.args.sums.now) old new key event e); grows = work.grows }

@@ -1,4 +1,4 @@
-use Rattle.std.proofs.Common.{true, refl, arith}
+use Rattle.std.proofs.Common.{true, arith}
 use Rattle.std.specs.FinMap as finite
 use Rattle.event_chain.specs.Chains.{stored}
 use Rattle.ledger_model.specs.ByDirection.{in_direction}
@@ -18,21 +18,20 @@ overflow_sub-sums c =
     let old = c.args.chains.now in let key = c.args.key.now in
     omega (arith, c.turn_event.ensures.voided, c.requires.voided, some_voided old key (found (finite.get old.events key) true c.requires.ready))
 
-pub returns-clause-done : goal.returns-clause-done
-returns-clause-done c =
-    let old = c.args.chains.now in let key = c.args.key.now in
-    let less = restored_voided old c.relink.new.self key (found (finite.get old.events key) true c.requires.ready) refl c.relink.ensures.events in
-    record {
-      limits = c.relink.ensures.limits;
-      events = c.relink.ensures.events;
-      summed = summed_voided c.turn_event.ensures.summed;
-      period = c.turn_event.ensures.period;
-      order = c.turn_event.ensures.order;
-      voided = omega (arith, c.turn_event.ensures.voided, c.requires.voided, less);
-    }
-
-pub returns-clause-work : goal.returns-clause-work
-returns-clause-work c =
+pub returns : goal.returns
+returns c =
     let old = c.args.chains.now in let new = c.relink.new.self in let key = c.args.key.now in let e = c.relink.ensures.events in
-    let work = c.turn_event.ensures.work (stored old) (turning (goal.at.returns-clause-work c).After-relink) in
-    record { bound = omega (arith, work.bound, restored_spends (order_in c.args.sums.now) old new key e (found (finite.get old.events key) true c.requires.ready)); grows = work.grows }
+    let f = found (finite.get old.events key) true c.requires.ready in let t = c.turn_event.ensures in
+    let voided = restored_voided old new key e f in let spends = restored_spends old new key (order_in c.args.sums.now) e f in
+    let work = t.work (stored old) (turning (goal.at.returns c).After-relink) in
+    record {
+      done = record {
+        limits = c.relink.ensures.limits;
+        events = e;
+        summed = summed_voided t.summed;
+        period = t.period;
+        order = t.order;
+        voided = omega (arith, t.voided, c.requires.voided, voided);
+      };
+      work = omega (arith, work, spends);
+    }

@@ -1,4 +1,4 @@
-use Rattle.std.proofs.Common.{false, refl, arith}
+use Rattle.std.proofs.Common.{false, arith}
 use Rattle.std.specs.FinMap as finite
 use Rattle.event_chain.specs.Chains.{stored}
 use Rattle.ledger_model.specs.ByDirection.{in_direction}
@@ -16,21 +16,20 @@ turn_event-requires-clause-turns c = (stored c.args.chains.now, turning (goal.at
 pub overflow_add-sums : goal.overflow_add-sums
 overflow_add-sums c = let b = c.requires.before in omega (arith, c.turn_event.ensures.voided, c.requires.voided, b.figures_within.events, b.most_events_within)
 
-pub returns-clause-done : goal.returns-clause-done
-returns-clause-done c =
-    let old = c.args.chains.now in let key = c.args.key.now in
-    let more = voided_voided_more old c.unlink.new.self key (found (finite.get old.events key) false c.requires.ready) refl c.unlink.ensures.events in
-    record {
-      limits = c.unlink.ensures.limits;
-      events = c.unlink.ensures.events;
-      summed = summed_voided c.turn_event.ensures.summed;
-      period = c.turn_event.ensures.period;
-      order = c.turn_event.ensures.order;
-      voided = omega (arith, c.turn_event.ensures.voided, c.requires.voided, more);
-    }
-
-pub returns-clause-work : goal.returns-clause-work
-returns-clause-work c =
+pub returns : goal.returns
+returns c =
     let old = c.args.chains.now in let new = c.unlink.new.self in let key = c.args.key.now in let e = c.unlink.ensures.events in
-    let work = c.turn_event.ensures.work (stored old) (turning (goal.at.returns-clause-work c).After-unlink) in
-    record { bound = omega (arith, work.bound, voided_spends (order_in c.args.sums.now) old new key e (found (finite.get old.events key) false c.requires.ready)); grows = work.grows }
+    let f = found (finite.get old.events key) false c.requires.ready in let t = c.turn_event.ensures in
+    let voided = voided_voided_more old new key e f in let spends = voided_spends old new key (order_in c.args.sums.now) e f in
+    let work = t.work (stored old) (turning (goal.at.returns c).After-unlink) in
+    record {
+      done = record {
+        limits = c.unlink.ensures.limits;
+        events = e;
+        summed = summed_voided t.summed;
+        period = t.period;
+        order = t.order;
+        voided = omega (arith, t.voided, c.requires.voided, voided);
+      };
+      work = omega (arith, work, spends);
+    }

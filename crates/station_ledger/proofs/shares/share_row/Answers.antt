@@ -1,7 +1,7 @@
-use Rattle.std.{proofs.Common.{◌≡◌, ◌-◌, ◌∷◌, List, None, take, drop, length, map, sym, ap, ◌∙◌}, proofs.lemmas.List.take_rest}
+use Rattle.std.{proofs.Common.{List, None, map, sym, ap, ◌∙◌, arith}, proofs.lemmas.List.nil_from_length}
 use Rattle.ledger_model.{specs.Deltas.pairs_between, specs.Event.MeterReading}
 use Rattle.reading_index.specs.declared.placed.PlacedReading.{PlacedReading}
-use Rattle.station_ledger.{specs.Shares.with_shares, proofs.Sharing.{followed_between, none_left, stepped}, proofs.Walks.{empty, first_and_rest}}
+use Rattle.station_ledger.{specs.Shares.with_shares, proofs.Sharing.{followed_between, none_left, stepped}, proofs.Walks.first_and_more}
 use Rattle.station_ledger.proofs.shares.share_row.Goals as goal
 
 readings : List PlacedReading → List MeterReading
@@ -10,9 +10,8 @@ readings rs = map (λ (r : PlacedReading). r.reading) rs
 pub loop-left-preserved : goal.loop-left-preserved
 unfolding readings
 loop-left-preserved c =
-    let r = c.first-item.result in let left = c.loop-left.left.now in let rest = take (length left - 1) (drop 1 left) in
-    let steps : left ≡ r ∷ rest = first_and_rest left rest r r c.in-len1-up.len_at_least c.first-item.is (take_rest left 1) in
-    stepped c.args.length c.args.direction c.loop-left.last r.reading (readings left) (readings rest) c.loop-left.table.rows
+    let r = c.first-item.result in let steps = first_and_more c.loop-left.left.now r c.in-len1-up.len_at_least c.first-item.is in
+    stepped c.args.length c.args.direction c.loop-left.last r.reading (readings c.loop-left.left.now) _ c.loop-left.table.rows
     c.share_across.new.table.rows _ (ap readings steps) c.in_ok-share_across.ensures c.loop-left.invariant
 
 pub returns : goal.returns
@@ -20,6 +19,6 @@ unfolding readings
 returns c =
     let n = c.args.length in let d = c.args.direction in let rows = c.loop-left.table.rows in let last = c.loop-left.last in
     sym (ap (λ ps. with_shares n d ps rows) (none_left last))
-    ∙ ap (λ rs. with_shares n d (pairs_between last (readings rs) None) rows) (sym (empty c.loop-left.left.now c.in_default.len_below))
+    ∙ ap (λ rs. with_shares n d (pairs_between last (readings rs) None) rows) (sym (nil_from_length c.loop-left.left.now (omega (arith, c.in_default.len_below))))
     ∙ c.loop-left.invariant
     ∙ ap (λ ps. with_shares n d ps c.args.table.now.rows) (sym (followed_between (readings c.args.readings.now)))

@@ -1,15 +1,15 @@
-use Rattle.std.proofs.Common.{IfSome, ap, subst, sym, ◌∙◌}
+use Rattle.std.{proofs.Common.{IfSome, ap, subst, sym, ◌∙◌}, proofs.lemmas.Option.IfSome_then}
 use Rattle.ledger_model.{specs.Energy.flows_of_by, proofs.NumberLemmas.numbers-AreRising}
 use Rattle.transaction_map.{specs.Map.Mapped, specs.Places.IsAt}
-use Rattle.station_ledger.{specs.Sums.{order_in, order_of}, proofs.OneLess.all_less, proofs.Settled.{turned, all_may, if_some, own_may, can_replace, replaced}}
+use Rattle.station_ledger.{specs.Sums.{order_in, order_of}, proofs.OneLess.all_less, proofs.Settled.{turned, all_may, own_may, can_replace, replaced}}
 use Rattle.station_ledger.proofs.sums.turn_event.Goals as goal
 
 pub standing_after-is-requires : goal.standing_after-is-requires
 standing_after-is-requires c =
     let es = c.requires.turns.0 in let h = c.requires.turns.1 in let chains = c.args.chains.now in let key = c.args.key.now in let tx = c.tx-tx.result.now in let order = order_in c.args.sums.now in
-    if_some c.args.own (λ e has none.
+    IfSome_then c.args.own c.requires.own (λ e has none.
     all_less c.args.way es chains key c.args.place.now h.turning (numbers-AreRising key.tx (record { events = chains.events; changes = 0 })) tx c.seq.result c.tx-tx.ensures c.seq.ensures.value
-    (flows_of_by order tx es) c.found-at.result.1 (c.found-at.ensures.was ∙ h.summed.standing.each tx) e.now has none) c.requires.own
+    (flows_of_by order tx es) c.found-at.result.1 (c.found-at.ensures.was ∙ h.summed.standing.each tx) e.now has none)
 
 pub applied-sums-requires : goal.applied-sums-requires
 applied-sums-requires c = let h = c.requires.turns in let e = c.turn_pairs-exchange.ensures in (all_may (turned c.tx-tx.ensures c.requires.within (e.exchanged h.0 h.1) e.kept h.1)).0

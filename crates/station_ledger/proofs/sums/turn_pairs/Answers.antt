@@ -1,7 +1,7 @@
-use Rattle.std.proofs.Common.{ap, subst, sym, arith}
+use Rattle.std.{proofs.Common.{ap, subst, sym}, proofs.lemmas.Option.IfSome_then}
 use Rattle.event_chain.{specs.Chains.stored, specs.Room.readings_under}
-use Rattle.ledger_model.{specs.declared.order.Order.TheVariants.Moment, specs.declared.reading.Direction.TheVariants.{Import, Export}}
-use Rattle.station_ledger.{specs.Moved.IsExchanged, specs.Quarters.IsWork, specs.Runs.by_way, specs.Spent.most_turned, specs.Sums.{AreQuarterRows, order_of}, proofs.Exchanges.{rows_by, turned_in_time, turned_in_turn, were}, proofs.Settled.{gone_held, came_room, if_some, table_filled, exchanged}}
+use Rattle.ledger_model.specs.declared.order.Order.TheVariants.{Moment}
+use Rattle.station_ledger.{specs.Moved.IsExchanged, specs.Quarters.IsWork, specs.Runs.by_way, specs.Spent.most_turned, specs.Sums.order_of, proofs.Exchanges.{all_then, few_come, few_go, held, room_left, rows_then, turned_in_time, were, work_then}}
 use Rattle.station_ledger.proofs.sums.turn_pairs.Goals as goal
 
 pub move_event-requires : goal.move_event-requires
@@ -24,60 +24,41 @@ returns-in-Some-clause-work c es h =
 
 -- by sequence, an event comes
 pub move_gap-less-requires : goal.move_gap-less-requires
-move_gap-less-requires c = let h = c.requires.turns.1 in gone_held (turned_in_turn c.requires.within h c.in-None.is c.in-Coming.is) (rows_by c.args.sums.now c.in-None.is h.summed.by_quarter)
+move_gap-less-requires c = held c.requires.within c.requires.turns.1 c.in-None.is c.in-Coming.is
 
 pub move_both-more-requires-clause-own : goal.move_both-more-requires-clause-own
-move_both-more-requires-clause-own c d = if_some c.args.own (λ e has. sym (ap (readings_under d) has)) c.requires.own
+move_both-more-requires-clause-own c d = IfSome_then c.args.own c.requires.own (λ e has. sym (ap (readings_under d) has))
 
 pub move_both-more-requires-clause-may : goal.move_both-more-requires-clause-may
-move_both-more-requires-clause-may c = let h = c.requires.turns.1 in
-    came_room (turned_in_turn c.requires.within h c.in-None.is c.in-Coming.is) (rows_by c.args.sums.now c.in-None.is h.summed.by_quarter) c.move_gap-less.ensures.quarters
+move_both-more-requires-clause-may c = room_left c.requires.within c.requires.turns.1 c.in-None.is c.in-Coming.is c.move_gap-less.ensures
 
 pub move_both-more-requires-clause-few : goal.move_both-more-requires-clause-few
-move_both-more-requires-clause-few c = let ch = turned_in_turn c.requires.within c.requires.turns.1 c.in-None.is c.in-Coming.is in omega (arith, ch.few_came Import, ch.few_came Export)
+move_both-more-requires-clause-few c = few_come c.requires.within c.requires.turns.1 c.in-None.is c.in-Coming.is
 
 pub returns-in-Coming-clause-rows : goal.returns-in-Coming-clause-rows
-returns-in-Coming-clause-rows c =
-    let h = c.requires.turns.1 in let sums = c.args.sums.now in let chains = c.args.chains.now in
-    subst (λ b. AreQuarterRows (order_of b) chains.limits (stored chains) sums.period c.move_both-more.new.quarters) (sym c.in-None.is)
-    (table_filled (turned_in_turn c.requires.within h c.in-None.is c.in-Coming.is) (rows_by sums c.in-None.is h.summed.by_quarter) c.move_gap-less.ensures.quarters c.move_both-more.ensures.quarters)
+returns-in-Coming-clause-rows c = rows_then c.requires.within c.requires.turns.1 c.in-None.is c.in-Coming.is c.move_gap-less.ensures c.move_both-more.ensures
 
 pub returns-in-Coming-clause-exchanged : goal.returns-in-Coming-clause-exchanged
-returns-in-Coming-clause-exchanged c es h =
-    subst (λ b. IsExchanged (order_of b) c.args.key.now.tx es (stored c.args.chains.now) c.move_gap-less.result c.move_both-more.result) (sym c.in-None.is)
-    (exchanged (turned_in_turn c.requires.within h c.in-None.is c.in-Coming.is) c.move_gap-less.ensures.sums c.move_both-more.ensures.sums)
+returns-in-Coming-clause-exchanged c es h = all_then c.requires.within h c.in-None.is c.in-Coming.is c.move_gap-less.ensures c.move_both-more.ensures
 
 pub returns-in-Coming-clause-work : goal.returns-in-Coming-clause-work
-returns-in-Coming-clause-work c es h =
-    let ch = turned_in_turn c.requires.within h c.in-None.is c.in-Coming.is in let less = c.move_gap-less.ensures.work in let more = c.move_both-more.ensures.work in
-    subst (λ b. IsWork (most_turned (order_of b) c.args.way c.args.chains.now c.args.key.now es) c.args.work.now c.move_both-more.new.work) (sym c.in-None.is)
-    (record { bound = omega (arith, less.bound, more.bound, ch.few); grows = omega (arith, less.grows, more.grows) })
+returns-in-Coming-clause-work c es h = work_then c.requires.within h c.in-None.is c.in-Coming.is c.move_gap-less.ensures c.move_both-more.ensures
 
 -- and goes
 pub move_both-less-requires-clause-may : goal.move_both-less-requires-clause-may
-move_both-less-requires-clause-may c = let h = c.requires.turns.1 in
-    gone_held (turned_in_turn c.requires.within h c.in-None.is c.in-Going.is) (rows_by c.args.sums.now c.in-None.is h.summed.by_quarter)
+move_both-less-requires-clause-may c = held c.requires.within c.requires.turns.1 c.in-None.is c.in-Going.is
 
 pub move_both-less-requires-clause-few : goal.move_both-less-requires-clause-few
-move_both-less-requires-clause-few c = let ch = turned_in_turn c.requires.within c.requires.turns.1 c.in-None.is c.in-Going.is in omega (arith, ch.few_gone Import, ch.few_gone Export)
+move_both-less-requires-clause-few c = few_go c.requires.within c.requires.turns.1 c.in-None.is c.in-Going.is
 
 pub move_gap-more-requires : goal.move_gap-more-requires
-move_gap-more-requires c = let h = c.requires.turns.1 in
-    came_room (turned_in_turn c.requires.within h c.in-None.is c.in-Going.is) (rows_by c.args.sums.now c.in-None.is h.summed.by_quarter) c.move_both-less.ensures.quarters
+move_gap-more-requires c = room_left c.requires.within c.requires.turns.1 c.in-None.is c.in-Going.is c.move_both-less.ensures
 
 pub returns-in-Going-clause-rows : goal.returns-in-Going-clause-rows
-returns-in-Going-clause-rows c =
-    let h = c.requires.turns.1 in let sums = c.args.sums.now in let chains = c.args.chains.now in
-    subst (λ b. AreQuarterRows (order_of b) chains.limits (stored chains) sums.period c.move_gap-more.new.quarters) (sym c.in-None.is)
-    (table_filled (turned_in_turn c.requires.within h c.in-None.is c.in-Going.is) (rows_by sums c.in-None.is h.summed.by_quarter) c.move_both-less.ensures.quarters c.move_gap-more.ensures.quarters)
+returns-in-Going-clause-rows c = rows_then c.requires.within c.requires.turns.1 c.in-None.is c.in-Going.is c.move_both-less.ensures c.move_gap-more.ensures
 
 pub returns-in-Going-clause-exchanged : goal.returns-in-Going-clause-exchanged
-returns-in-Going-clause-exchanged c es h =
-    subst (λ b. IsExchanged (order_of b) c.args.key.now.tx es (stored c.args.chains.now) c.move_both-less.result c.move_gap-more.result) (sym c.in-None.is)
-    (exchanged (turned_in_turn c.requires.within h c.in-None.is c.in-Going.is) c.move_both-less.ensures.sums c.move_gap-more.ensures.sums)
+returns-in-Going-clause-exchanged c es h = all_then c.requires.within h c.in-None.is c.in-Going.is c.move_both-less.ensures c.move_gap-more.ensures
 
 pub returns-in-Going-clause-work : goal.returns-in-Going-clause-work
-returns-in-Going-clause-work c es h =
-    let ch = turned_in_turn c.requires.within h c.in-None.is c.in-Going.is in let less = c.move_both-less.ensures.work in let more = c.move_gap-more.ensures.work in
-    subst (λ b. IsWork (most_turned (order_of b) c.args.way c.args.chains.now c.args.key.now es) c.args.work.now c.move_gap-more.new.work) (sym c.in-None.is)
-    (record { bound = omega (arith, less.bound, more.bound, ch.few); grows = omega (arith, less.grows, more.grows) })
+returns-in-Going-clause-work c es h = work_then c.requires.within h c.in-None.is c.in-Going.is c.move_both-less.ensures c.move_gap-more.ensures

@@ -15,31 +15,12 @@ pub invariant_of-self : goal.invariant_of-self
 invariant_of-self c = kept_after c.self.invariant c.args.command c.requires.admissible (accepted (goal.at.invariant_of-self c).In-Accepted) c.carry_out.ensures.done
 
 pub returns-in-Accepted : goal.returns-in-Accepted
-returns-in-Accepted c = record {
-  answer = sym c.in-Accepted.is ∙ c.requires.answered;
-  content = search rules;
-  work = search rules;
-  bound = search rules;
-  reached = (kept_after c.self.invariant c.args.command c.requires.admissible (accepted (goal.at.returns-in-Accepted c).In-Accepted) c.carry_out.ensures.done).reached;
-  fits = search rules;
-}
+returns-in-Accepted c =
+    let kept = kept_after c.self.invariant c.args.command c.requires.admissible (accepted (goal.at.returns-in-Accepted c).In-Accepted) c.carry_out.ensures.done in
+    search (rules, sym c.in-Accepted.is ∙ c.requires.answered, kept.reached)
 
 pub returns-in-Repeat : goal.returns-in-Repeat
-returns-in-Repeat c = record {
-  answer = sym c.in-Repeat.is ∙ c.requires.answered;
-  content = search rules;
-  work = search rules;
-  bound = search rules;
-  reached = subst (λ (x : Ledger). Reached x.limits x.content.changes x.content) c.self.view_is c.self.invariant.reached;
-  fits = search rules;
-}
+returns-in-Repeat c = search (rules, sym c.in-Repeat.is ∙ c.requires.answered, subst (λ (x : Ledger). Reached x.limits x.content.changes x.content) c.self.view_is c.self.invariant.reached)
 
 pub returns : goal.returns
-returns c = record {
-  answer = sym c.in-Refused.is ∙ c.requires.answered;
-  content = search rules;
-  work = search rules;
-  bound = search rules;
-  reached = subst (λ (x : Ledger). Reached x.limits x.content.changes x.content) c.self.view_is c.self.invariant.reached;
-  fits = search rules;
-}
+returns c = search (rules, sym c.in-Refused.is ∙ c.requires.answered, subst (λ (x : Ledger). Reached x.limits x.content.changes x.content) c.self.view_is c.self.invariant.reached)
