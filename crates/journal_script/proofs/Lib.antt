@@ -10,7 +10,7 @@ pub mod Contents
 pub mod Journals
 pub mod Boards
 pub mod Moments
-mod MessageLine
+mod MessageText
 mod NoTree
 mod NotJson
 mod Unheard

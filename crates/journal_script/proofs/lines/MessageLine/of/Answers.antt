@@ -1,5 +1,5 @@
 use Rattle.std.{proofs.Common.{◌≡◌, sym, ◌∙◌, refl}, proofs.lemmas.Bool.false≢true}
-use Rattle.journal_script.{specs.declared.lines.MessageLine.TheVariants.AsItIs, specs.Speaking.StandsAsItIs, proofs.MessageLine.{line_speaks, never_asked, stands_by_parts, stands_in_script, stands_short}}
+use Rattle.journal_script.{specs.declared.lines.MessageLine.TheVariants.AsItIs, specs.Speaking.StandsAsItIs, proofs.MessageText.{line_speaks, never_asked, stands_by_parts, stands_in_script, stands_short}}
 use Rattle.journal_script.proofs.lines.MessageLine.of.Goals as goal
 
 pub returns-then-stands_as_it_is-clause-speaks : goal.returns-then-stands_as_it_is-clause-speaks
