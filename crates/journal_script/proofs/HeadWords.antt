@@ -1,6 +1,6 @@
 -- Lines of words, and what they say.
 use Rattle.std.{proofs.Common.{◌≡◌, ℕ, zero, suc, ◌+◌, ◌-◌, ◌*◌, ◌^◌, ◌<◌, ◌≤◌, Bool, true, false, not, cond, ◌&&◌, ◌||◌, eqb, leb, ltb, List, [], ◌∷◌, ◌++◌, All, None, Some, decimal, flat_map, length, get_or, take, drop, refl, sym, ap, ◌∙◌, inl, inr, arith, rules, append_assoc, append-nil, length-append}, specs.Char.is_ascii_digit, specs.Io.BufRead.{ends_with_byte, strip_last}, specs.List.{list_all, position_or_len}, specs.Option.option_map_or, specs.Str.IsUtf8, specs.Str.Parse.digits_value, proofs.lemmas.Bool.{and_from, and_parts, and_right, cases_lt, false≢true, leb-true, le-leb, lt-ltb, ne_eqb, not_from_false, or_left}, proofs.lemmas.Bool.Decides.nat_tests, proofs.lemmas.Fmt.{decimal_nonempty, digits_decimal, digits_value-decimal, first_decimal, length-decimal-le}, proofs.lemmas.List.{get_or_append_left, get_or_past}, proofs.lemmas.List.Elements.{All-head, All-tail}, proofs.lemmas.List.Folds.list_all-append, proofs.lemmas.List.Sums.{AllPass-from_list_all, position_or_len_is}, proofs.lemmas.Str.{IsUtf8-from_ascii, is_utf8-from_IsUtf8}, proofs.lemmas.Str.Parse.{IsNumeralModel, numerals_by_value}, proofs.Math.Seq.{drop-append_seam, get_or-append_seam, take-append_seam}}
-use Rattle.ledger_model.specs.Name.{is_name, is_name_character}
+use Rattle.ledger_model.specs.Name.{is_name}
 use Rattle.kept_desk.proofs.Written.{short_name}
 use Rattle.script_lines.{proofs.MessageLines.{is_word_byte, name_word}, specs.declared.script_line.LineFault.TheVariants.BadLine, specs.LineMeaning.{LineMeaning, ◌>>=◌, by_bytes, by_first_word, by_text, by_words, fails, is_number, is_space, line_meaning, number, parted, words}, specs.Lines.HasNoFeed, specs.Ranges.longest_line}
 

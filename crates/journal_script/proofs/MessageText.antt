@@ -55,5 +55,5 @@ stands_short name text stands = omega (arith, line_length name text, stands.shor
 
 -- what cannot be asked of a result is kept by it
 pub never_asked : {A E : Type 0} (S : Type 0) (P : A → Type 0) (r : Result A E) → (S → ⊥) → IfOk r (λ a. S → P a)
-never_asked S P (Ok a) no = λ s. absurd (no s)
-never_asked S P (Err e) no = tt
+never_asked S P (Ok a) never = λ s. absurd (never s)
+never_asked S P (Err e) never = tt
