@@ -174,7 +174,7 @@ class Part:
         """Takes a line into the part; False where its values can't be."""
         if kind == "total":
             flow = flow_in(values[len(COUNTS) :])
-            self.total = Total(*map(int, values[: len(COUNTS)]), flow=flow)
+            self.total = Total._make([*map(int, values[: len(COUNTS)]), flow])
         elif kind == "evse":
             self.evses.append(Evse(int(values[0]), flow_in(values[1:])))
         elif kind == "period":

@@ -459,7 +459,7 @@ class SiteRows:
     def whole(self) -> Total:
         """The sum of the figures."""
         counts = (sum(getattr(one, name) for one in self.totals) for name in COUNTS)
-        return Total(*counts, flow=sum_of(one.flow for one in self.totals))
+        return Total._make([*counts, sum_of(one.flow for one in self.totals)])
 
     def with_sum(self) -> list[Row]:
         """The rows, with the sum of the figures where there are several."""
