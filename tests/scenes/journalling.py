@@ -421,6 +421,9 @@ def stalled_journal(program: str) -> None:
 
     with server:
         station, other = Station(server, "A"), Station(server, "A")
+        # A session is let in under its station's lock, after the handshake's answer.
+        other.sends(Frame(TEXT, b'[2,"g","StatusNotification",{}]').bytes())
+        other.receives(Frame(TEXT, b'[3,"g",{}]', False).bytes())
         number = 0
         try:
             station.stream.settimeout(HELD)
