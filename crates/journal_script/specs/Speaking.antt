@@ -1,5 +1,5 @@
 -- What a message's line says, whenever it is read.
-use Rattle.std.{specs.Prelude.{◌≡◌, ℕ, ◌≤◌, true, List, length}, specs.Io.BufRead.strip_last}
+use Rattle.std.{specs.Prelude.{◌≡◌, ℕ, ◌≤◌, true, List, Option, None, Some, length}, specs.Io.BufRead.strip_last}
 use Rattle.ledger_model.{specs.declared.command.Command.Command, specs.declared.command.Command.TheVariants.Deliver, specs.Name.is_name}
 use Rattle.journal_script.{specs.declared.lines.MessageLine.MessageLine, specs.declared.lines.MessageLine.TheVariants.{AsItIs, Spaced, Unspoken}}
 use Rattle.kept_desk.{specs.Entries.message_text, specs.Speaking.{AsksFor, Speaks}}
@@ -17,6 +17,12 @@ pub record StandsAsItIs (name text : List ℕ) : Type 0 where
   pub feedless : HasNoFeed text
   pub bare : strip_last 13 text ≡ text
   pub short : length (message_text name text) ≤ longest_line
+
+-- The line of this message, if there is one.
+abbrev pub spoken_line : List ℕ → List ℕ → MessageLine → Option (List ℕ)
+spoken_line name text AsItIs = Some (message_text name text)
+spoken_line name text (Spaced line) = Some line.items
+spoken_line name text Unspoken = None
 
 -- The line of this message speaks for the command, if there is one.
 abbrev pub SpeaksFor : List ℕ → List ℕ → Command → MessageLine → Type 0

@@ -24,10 +24,10 @@ pub enum MessageLine {
 }
 
 impl MessageLine {
-    ghost use Rattle.std.specs.Prelude.{◌≡◌, IfOk, IfSome, IsTrue};
+    ghost use Rattle.std.specs.Prelude.{◌≡◌, IfOk, IfSome, IsTrue, option_map};
     ghost use Rattle.ledger_model.{specs.declared.command.Command.Command, specs.declared.command.Command.TheVariants.Deliver};
     ghost use Rattle.kept_desk.{specs.Entries.bytes_of, specs.Speaking.{AsksFor, Speaks}};
-    ghost use Rattle.journal_script.specs.Speaking.{SpeaksFor, StandsAsItIs};
+    ghost use Rattle.journal_script.specs.Speaking.{SpeaksFor, StandsAsItIs, spoken_line};
 
     /// The line of this text of a station. Memory is taken only if the text is not in the journal as it is.
     ///
@@ -51,7 +51,8 @@ impl MessageLine {
 
     /// The line as a journal takes it, if there is one. The name and the text are those that it was made for.
     pub fn spoken<'a>(&'a self, name: &'a Name, text: &'a str) -> Option<Line<'a>>
-        ensures { (command : Command) → SpeaksFor name.now text.now command self.now → IfSome result (λ line. Speaks name.now (bytes_of line) command) }
+        ensures line { option_map bytes_of result ≡ spoken_line name.now text.now self.now }
+        ensures speaks { (command : Command) → SpeaksFor name.now text.now command self.now → IfSome result (λ line. Speaks name.now (bytes_of line) command) }
     {
         match self {
             MessageLine::AsItIs => Some(Line::Message(name, text)),

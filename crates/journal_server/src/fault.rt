@@ -1,5 +1,5 @@
 use journal_script::RestoreFault;
-use server_parts::ServiceFault;
+use running_desk::ServiceFault;
 use std::alloc::AllocError;
 use thiserror::Error;
 

@@ -12,7 +12,7 @@ use crate::serving::Serving;
 use board_report::write_boards;
 use kept_desk::{JournalTable, KeptDesk, Moment, Opening};
 use live_server::{Ran, Run, serve_plan_at};
-use server_parts::{Host, Input, Output, ServiceFault};
+use running_desk::{Host, Input, Output, ServiceFault};
 use site_book::{Naming, Tables, Viewer};
 use site_desk::{Parts, Plan};
 use station_cell::{Pass, StationCell};

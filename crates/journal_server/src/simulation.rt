@@ -10,7 +10,7 @@ use arrayvec::ArrayString;
 use itoa::Buffer;
 use ledger_model::{Limits, Name, Order, Periods};
 use live_server::Live;
-use server_parts::{Host, Output, ServiceFault, Sockets, address_of, listen};
+use running_desk::{Host, Output, ServiceFault, Sockets, address_of, listen};
 use site_desk::Plan;
 use station_link::{SimFault, SimStation};
 use std::alloc::Global;

@@ -1,4 +1,4 @@
-use Rattle.std.specs.Prelude.{ℕ, ◌+◌, ◌*◌, ◌≤◌, List, [], ◌∷◌, slice_index}
+use Rattle.std.specs.Prelude.{ℕ, ◌+◌, ◌*◌, ◌^◌, ◌≤◌, List, [], ◌∷◌, slice_index}
 use Rattle.ledger_model.{specs.declared.figures.Figures.Figures, specs.Limits.Bounds, specs.Ranges.{greatest_reading, sequence_end}}
 
 -- The figures in the order of a board's line.
@@ -26,6 +26,11 @@ figure_at k f = slice_index (figure_list f) k
 -- The figures of a station without events.
 abbrev pub no_figures : Figures
 no_figures = figures_from []
+
+-- The sum of two figures at one place does not fit in 64 bits.
+pub record Overflow (a b : Figures) : Type 0 where
+  pub place : ℕ
+  pub exceeds : 2 ^ 64 ≤ figure_at place a + figure_at place b
 
 -- Figures that a station of these limits can have.
 pub record AreWithin (limits : Bounds) (f : Figures) : Type 0 where

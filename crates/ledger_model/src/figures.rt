@@ -1,4 +1,4 @@
-ghost use Rattle.std.specs.Prelude.{◌≡◌, ◌↔◌, IfSome, IsTrue};
+ghost use Rattle.std.specs.Prelude.{◌≡◌, ◌↔◌, IfNone, IfSome, IsTrue};
 
 use crate::{GREATEST_READING, Limits};
 
@@ -29,7 +29,7 @@ pub struct Figures {
 }
 
 impl Figures {
-    ghost use Rattle.ledger_model.{specs.Figures.{figure_list, no_figures, AreWithin}, specs.Board.plus_figures};
+    ghost use Rattle.ledger_model.{specs.Figures.{figure_list, no_figures, AreWithin, Overflow}, specs.Board.plus_figures};
 
     /// The figures of a station without events.
     pub fn zero() -> Self
@@ -85,7 +85,8 @@ impl Figures {
 
     /// The sum of both, figure by figure; `None` if one does not fit in 64 bits.
     pub fn checked_add(&self, other: &Self) -> Option<Self>
-        ensures { IfSome result (λ f. f ≡ plus_figures self.now other.now) }
+        ensures sum { IfSome result (λ f. f ≡ plus_figures self.now other.now) }
+        ensures none { IfNone result (Overflow self.now other.now) }
     {
         let mut sums = self.to_array();
         let others = other.to_array();

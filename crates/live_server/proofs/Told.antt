@@ -4,8 +4,7 @@ use Rattle.ledger_model.{specs.declared.answer.Answer.Answer, specs.declared.com
 use Rattle.script_lines.{specs.LineMeaning.line_meaning, specs.Lines.Line}
 use Rattle.site_book.specs.Book.{Known}
 use Rattle.site_desk.{specs.declared.plan.SitePlan.SitePlan, specs.declared.roster.StationPlace.StationPlace}
-use Rattle.server_parts.specs.Ports.{at_port}
-use Rattle.running_desk.{specs.Ordered.lines_in, specs.Replied.IsReplyOrMemory, specs.Replies.{AddsReplies, Replied}}
+use Rattle.running_desk.{specs.Ports.at_port, specs.Ordered.lines_in, specs.Replied.IsReplyOrMemory, specs.Replies.{AddsReplies, Replied}}
 use Rattle.live_server.specs.Told.{Tells, operator_input, ports}
 
 -- where it listens for stations, and then for browsers

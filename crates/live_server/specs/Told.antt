@@ -3,8 +3,7 @@ use Rattle.std.{specs.Prelude.{ℕ, List, [], ◌++◌, Option, None, Some, code
 use Rattle.ledger_model.{specs.declared.answer.Answer.Answer, specs.declared.command.Command.Command, specs.Board.Board}
 use Rattle.script_lines.specs.Lines.{Line}
 use Rattle.site_desk.{specs.declared.plan.SitePlan.SitePlan, specs.declared.roster.StationPlace.StationPlace}
-use Rattle.server_parts.specs.Ports.{at_port}
-use Rattle.running_desk.specs.Replies.{AddsReplies}
+use Rattle.running_desk.{specs.Ports.at_port, specs.Replies.AddsReplies}
 use Rattle.site_book.specs.Book.{Known}
 
 -- The lines of its ports: for stations, and for browsers if it listens for them.

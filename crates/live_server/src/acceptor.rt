@@ -1,5 +1,5 @@
 //! The listeners where threads wait for connections, and how the end calls the threads away.
-use server_parts::Sockets;
+use running_desk::Sockets;
 use std::net::{TcpListener, TcpStream};
 use std::sync::Wait;
 use std::sync::atomic::{AtomicBool, AtomicU64, Ordering};

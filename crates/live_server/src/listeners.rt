@@ -4,7 +4,7 @@ ghost use Rattle.live_server.specs.Told.{ports};
 
 use crate::acceptor::{Acceptor, Acceptors};
 use crate::service::Live;
-use server_parts::{ServiceFault, Sockets, listen, tell_port};
+use running_desk::{ServiceFault, Sockets, listen, tell_port};
 use std::io::Write;
 use std::net::TcpListener;
 

@@ -1,7 +1,6 @@
 //! A thread that glances at the totals while a live server serves.
 use crate::shared::{Shared, Viewers};
-use running_desk::Serves;
-use server_parts::tell_totals;
+use running_desk::{Serves, tell_totals};
 use std::io::Write;
 use std::sync::Wait;
 use std::sync::atomic::Ordering;

@@ -4,9 +4,8 @@ use Rattle.journal_server.{specs.declared.fault.JournalFault.JournalFault, specs
 use Rattle.journal_script.specs.Restoring.{Grows}
 use Rattle.kept_desk.specs.Opened.{contents_of}
 use Rattle.live_server.specs.Told.{operator_input}
-use Rattle.running_desk.specs.Ordered.{lines_in}
+use Rattle.running_desk.{specs.Ordered.lines_in, specs.declared.fault.ServiceFault.ServiceFault}
 use Rattle.site_desk.{specs.declared.plan.SitePlan.SitePlan, specs.declared.plan.StationPlan.StationPlan}
-use Rattle.server_parts.specs.declared.fault.ServiceFault.{ServiceFault}
 use Rattle.script_lines.specs.Writing.{WritesFront}
 use Rattle.script_replay.specs.Whole.{HasOutput, Writes}
 use Rattle.station_cell.specs.Cell.{Held}

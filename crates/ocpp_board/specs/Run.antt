@@ -10,8 +10,8 @@ use Rattle.script_lines.specs.declared.fault.ReplayFault.{ReplayFault}
 use Rattle.script_lines.specs.declared.fault.ReplayFault.TheVariants as replay
 use Rattle.script_replay.{specs.Whole.{HasOutput, IsMistake, IsReplayRun, IsReported, Shows, Writes, fault_report}, specs.declared.whole.Ended.Ended}
 use Rattle.site_desk.specs.declared.plan.Plan.{Plan}
-use Rattle.server_parts.specs.declared.fault.ServiceFault.{ServiceFault}
-use Rattle.server_parts.specs.declared.fault.ServiceFault.TheVariants as service
+use Rattle.running_desk.specs.declared.fault.ServiceFault.{ServiceFault}
+use Rattle.running_desk.specs.declared.fault.ServiceFault.TheVariants as service
 use Rattle.board_report.specs.declared.closed.BoardsFault.TheVariants as board
 use Rattle.site_desk.specs.declared.fault.CloseFault.TheVariants as close
 use Rattle.site_desk.specs.declared.fault.DeskFault.TheVariants as desk

@@ -1,7 +1,7 @@
 //! What a run of the program takes from its process.
 
 use gathered_input::Readiness;
-use server_parts::{Host, Output};
+use running_desk::{Host, Output};
 use std::io::{Read, Write};
 use std::random::RandomSource;
 

@@ -11,9 +11,9 @@ use journal_server::JournalFault;
 use ledger_model::{
     MAX_CHANGES, MAX_EVENTS, MAX_PLAN_READINGS, MAX_SITES, MAX_STATIONS, MAX_TRANSACTIONS,
 };
+use running_desk::ServiceFault;
 use script_lines::{ReplayFault, WriteStopped, write_bytes};
 use script_replay::{Ended, MISTAKEN};
-use server_parts::ServiceFault;
 use site_desk::{CloseFault, DeskFault, Plan};
 use station_link::SimFault;
 use std::alloc::Global;

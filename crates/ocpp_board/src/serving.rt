@@ -11,8 +11,8 @@ use journal_server::{
     JournalFault, Journalling, Restoring, Served, serve_journalled, serve_live, serve_restored,
     simulate,
 };
+use running_desk::ServiceFault;
 use script_replay::buffered;
-use server_parts::ServiceFault;
 use site_desk::Plan;
 use std::alloc::Global;
 use std::io;

@@ -1,5 +1,6 @@
 pub mod Ordered
 pub mod Pooled
+pub mod Ports
 pub mod Replied
 pub mod Replies
 pub mod Reading

@@ -1,4 +1,6 @@
-//! A desk while it is served: passes that are used again, boards, and an operator's lines.
+//! A desk while it is served: passes that are used again, boards, and an operator's lines; and what each server is made
+//! of: why it ended without its boards, the machine that it runs on with its inputs and outputs, the system's clock, the
+//! port that it listens on, and the lines of a site's totals.
 //!
 //! A [`Running`] desk is the desk of a plan with a pool of passes ([`PassPool`]). A session puts its
 //! pass into the pool at its end, and a later session of the same station takes it from there. So a station gives out
@@ -13,6 +15,8 @@
 //! that the line names. A board is that of the site that the line names.
 //!
 //! ```text
+//! let listener = listen(rt, port)?;
+//! tell_port(&listener, "listening", &mut output)?;       // listening 127.0.0.1:9000
 //! let running = Running::open(rt, alloc, &plan, &desk, passes);
 //! running.operate(&mut input, &mut output)?;   // until the input ends or says `close`
 //! let passes = running.into_passes();
@@ -20,13 +24,23 @@
 #![tactic(auto)]
 
 mod attentive;
+mod fault;
+mod host;
+mod moments;
 mod operator;
 mod orders;
 mod pass_pool;
+mod ports;
 mod running;
 mod serves;
+mod totals;
 
+pub use fault::ServiceFault;
+pub use host::{Host, Input, Output, Sockets};
+pub use moments::SystemMoments;
 pub use orders::Came;
 pub use pass_pool::PassPool;
+pub use ports::{address_of, listen, tell_port};
 pub use running::{Running, site_of};
 pub use serves::{MayBreak, Seen, Serves};
+pub use totals::tell_totals;

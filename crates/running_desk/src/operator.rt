@@ -5,6 +5,8 @@ ghost use Rattle.site_desk.{specs.declared.roster.StationPlace.StationPlace, spe
 ghost use Rattle.running_desk.{specs.Replied.{IsBoard, IsCommandLine, IsCommanded, IsList, IsMessageLine, IsMessaged, IsReply, IsSent, IsSubmitted, IsTotals, totals_line}, specs.Ordered.{ends, lines_in}, specs.Replies.{AddsReplies, AddsReply}};
 ghost use Rattle.station_link.{specs.Attended.if_seen, specs.declared.ending.Why.Why};
 
+use crate::fault::ServiceFault;
+use crate::moments::SystemMoments;
 use crate::orders::{Came, Orders};
 use crate::running::{Running, site_of};
 use crate::serves::Serves;
@@ -14,7 +16,6 @@ use gathered_input::Readiness;
 use ledger_model::{Command, Figures, Name, TxId};
 use script_ledgers::{put_listed, put_mark};
 use script_lines::{LineFault, ScriptLine, TxList, put_answer, put_fault, put_line, read_line};
-use server_parts::{ServiceFault, SystemMoments};
 use site_desk::{BoardFault, NoGate};
 use station_cell::Pass;
 use station_link::{Why, answer_text, present};

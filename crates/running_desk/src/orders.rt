@@ -4,11 +4,11 @@ ghost use Rattle.script_lines.specs.Lines.{line_bytes};
 ghost use Rattle.running_desk.specs.Ordered.{Comes, came_of, lines_in};
 
 use crate::attentive::Attentive;
+use crate::fault::ServiceFault;
 use crate::serves::MayBreak;
 use board_report::BoardsFault;
 use gathered_input::Readiness;
 use script_lines::{LineEnd, LineReader, MAX_LINE_BYTES};
-use server_parts::ServiceFault;
 use std::alloc::Global;
 use std::io::BufRead;
 use std::sync::Wait;

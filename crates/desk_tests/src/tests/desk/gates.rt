@@ -1,6 +1,6 @@
 use super::scenes::{Scene, plays};
 use super::{FIRST, both_of, delivery_of, pass_of, tells};
-use desk_fixtures::HoldsA;
+use crate::tests::gate::HoldsA;
 use ledger_model::{Answer, Kind};
 use site_book::Naming;
 use site_desk::{Desk, NoGate};

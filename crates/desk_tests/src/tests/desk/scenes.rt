@@ -7,7 +7,7 @@ use super::gates::{held_station, two_passes};
 use super::has;
 use super::plans::{changes, closes_with_all, each_pass, has_changes, posts, second_board};
 use super::three::{has_three, three_sides};
-use desk_fixtures::{opened, plan_of};
+use crate::tests::plans::{opened, plan_of};
 use site_book::{Naming, Tables, Viewer};
 use site_desk::{Closed, Desk, Plan};
 use station_cell::Pass;

@@ -1,6 +1,6 @@
 use Rattle.std.{proofs.Common.{None, ap, refl}, specs.Io.Buffered.{reader_remaining, writer_contents}}
 use Rattle.journal_server.{specs.declared.fault.JournalFault.TheVariants.Service, specs.Served.{IsNewRun, TellsNew}}
-use Rattle.server_parts.specs.declared.fault.ServiceFault.TheVariants.{OutOfMemory}
+use Rattle.running_desk.specs.declared.fault.ServiceFault.TheVariants.{OutOfMemory}
 use Rattle.live_server.specs.Told.{operator_input}
 use Rattle.ocpp_board.proofs.Runs.{new_run, unwritten_failed, unwritten_run}
 use Rattle.ocpp_board.proofs.serving.live.Goals as goal

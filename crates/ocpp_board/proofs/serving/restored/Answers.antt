@@ -1,6 +1,6 @@
 use Rattle.std.{proofs.Common.{Err, refl}, specs.Io.Buffered.{reader_remaining, writer_contents}}
 use Rattle.journal_server.{specs.declared.fault.JournalFault.TheVariants.Service, specs.Served.{IsRestoredRun, TellsRestored}}
-use Rattle.server_parts.specs.declared.fault.ServiceFault.TheVariants.{OutOfMemory}
+use Rattle.running_desk.specs.declared.fault.ServiceFault.TheVariants.{OutOfMemory}
 use Rattle.ocpp_board.proofs.Runs.{journal_run, restored_run}
 use Rattle.ocpp_board.proofs.serving.restored.Goals as goal
 

@@ -1,6 +1,6 @@
 use Rattle.std.{proofs.Common.{None, refl}, specs.Io.Buffered.{reader_remaining, writer_contents}}
 use Rattle.journal_server.{specs.declared.fault.JournalFault.TheVariants.Service, specs.Served.{IsRestoredRun, TellsRestored}}
-use Rattle.server_parts.specs.declared.fault.ServiceFault.TheVariants.{OutOfMemory}
+use Rattle.running_desk.specs.declared.fault.ServiceFault.TheVariants.{OutOfMemory}
 use Rattle.ocpp_board.proofs.Runs.{restored_run, unwritten_failed, unwritten_run}
 use Rattle.ocpp_board.proofs.serving.restored_live.Goals as goal
 

@@ -1,6 +1,6 @@
 use Rattle.std.{proofs.Common.{◌≡◌, None}, specs.Io.Buffered.writer_contents}
 use Rattle.journal_server.{specs.declared.fault.JournalFault.TheVariants.Service, specs.Simulated.IsSimulatedRun}
-use Rattle.server_parts.specs.declared.fault.ServiceFault.TheVariants.{OutOfMemory}
+use Rattle.running_desk.specs.declared.fault.ServiceFault.TheVariants.{OutOfMemory}
 use Rattle.ocpp_board.proofs.Runs.{simulated_run, unwritten_failed, unwritten_run}
 use Rattle.ocpp_board.proofs.serving.simulated.Goals as goal
 

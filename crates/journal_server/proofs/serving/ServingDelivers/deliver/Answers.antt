@@ -15,7 +15,7 @@ submit-requires-clause-speaks g c = λ at there.
     let some_text : 0 < length c.text.result.now = grind (arith, nat_tests, empty, not_empty) in
     let some : 0 < length c.in-Some.name.now = omega (arith, some_text, ap length c.text.ensures.value) in
     subst (λ n. SpeaksOf n (bytes_of c.in-Some-spoken.line) (Deliver c.args.ordered.key c.args.ordered.event)) (sym same)
-    (record { some = some; speaks = c.in-Some-spoken.ensures (Deliver c.args.ordered.key c.args.ordered.event) c.in_ok-made.ensures.speaks })
+    (record { some = some; speaks = c.in-Some-spoken.ensures.speaks (Deliver c.args.ordered.key c.args.ordered.event) c.in_ok-made.ensures.speaks })
 
 pub returns-clause-given : goal.returns-clause-given
 returns-clause-given g c at there = (_, _, c.submit.ensures.received at there)

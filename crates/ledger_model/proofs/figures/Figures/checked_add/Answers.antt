@@ -12,5 +12,5 @@ loop-k-preserved c =
     let put = put_at (λ j n. n ≡ figure_at j a + figure_at j b) (λ j n. n ≡ figure_at j a) c.loop-k.sums k c.in_ok-sums.field-0 (omega arith) i.added i.left here in
     record { size = length-set c.loop-k.sums k c.in_ok-sums.field-0 ∙ i.size; added = put.0; left = put.1 }
 
-pub returns : goal.returns
-returns c = added_figures _ _ _ _ c.from_array.ensures (λ j within. c.loop-k.invariant.added j (omega arith))
+pub returns-clause-sum : goal.returns-clause-sum
+returns-clause-sum c = added_figures _ _ _ _ c.from_array.ensures (λ j within. c.loop-k.invariant.added j (omega arith))

@@ -1,6 +1,6 @@
 //! The port of 127.0.0.1 that a server listens on.
 ghost use Rattle.std.{specs.Prelude.{◌≡◌, ◌≤◌, ℕ, OnOk, length}, specs.Io.KnownBytes.Appends};
-ghost use Rattle.server_parts.specs.Ports.{at_port};
+ghost use Rattle.running_desk.specs.Ports.{at_port};
 
 use crate::fault::ServiceFault;
 use crate::host::Sockets;

@@ -1,5 +1,5 @@
 use Rattle.site_book.specs.Tables.{names_of}
-use Rattle.server_tests.proofs.tests.site.sessions_at_once.plays.Given as goal
+use Rattle.desk_tests.proofs.tests.site.sessions_at_once.plays.Given as goal
 
 -- the tables that were just made
 abbrev pub ghosts-changes_of_both : goal.ghosts-changes_of_both

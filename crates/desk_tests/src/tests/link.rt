@@ -6,9 +6,9 @@ mod sims;
 ghost use Rattle.std.specs.Prelude.{ℕ, ◌<◌, length};
 ghost use Rattle.site_book.specs.Tables.{HasTable, NamedBy};
 
+use crate::tests::plans::{opened, plan_of};
 use codes::all_taken;
 use cuts::sends_again;
-use desk_fixtures::{opened, plan_of};
 use ledger_model::Moment;
 use memory::{Frames, Memory, Peer, TEXT};
 use sims::each_text;

@@ -3,7 +3,8 @@ ghost use Rattle.std.specs.Prelude.{ℕ, ◌<◌, length};
 ghost use Rattle.site_book.specs.Tables.{HasTable, NamedBy};
 
 use super::client::{A, B, sends_one};
-use desk_fixtures::{HoldsA, plan_of};
+use crate::tests::gate::HoldsA;
+use crate::tests::plans::plan_of;
 use ledger_model::Moment;
 use site_book::{Naming, Tables};
 use site_desk::{Desk, Plan};
