@@ -1,6 +1,5 @@
 """The command, what tools report, and the tools that write or explain scripts."""
 
-import asyncio
 import gzip
 import io
 import json
@@ -16,10 +15,6 @@ from ocpp_board.commands import log_to_script
 from ocpp_board.commands.explain import Plan, Run
 from tests.traffic.script import arguments, event, script, unchanging
 from ocpp_board.escapes import csv_cell, from_copy, shown
-from ocpp_board.fleet.closing import forget
-from ocpp_board.fleet.database import replays
-from ocpp_board.fleet.database.connections import SECRETS
-from ocpp_board.fleet.database.plans import known_lines
 from ocpp_board.messages.message_faults import message_fault
 from ocpp_board.processes import TUNABLES
 from ocpp_board.replay import answered
@@ -133,32 +128,7 @@ def test_replays_have_texts_at_hand_unless_the_user_says_otherwise(
     monkeypatch.delenv("GLIBC_TUNABLES", raising=False)
     if said:
         monkeypatch.setenv("GLIBC_TUNABLES", said)
-
-    async def of_the_fleet() -> bytes:
-        replay = await replays.Replay.start(str(program))
-        return (await replay.process.communicate())[0]
-
-    reported = (said or TUNABLES).encode()
-    assert answered.Replay(str(program)).output.read() == reported
-    assert asyncio.run(of_the_fleet()) == reported
-    assert forget.replayed(str(program), []) == reported
-
-
-def test_replays_get_no_secrets(tmp_path: Path, monkeypatch: pytest.MonkeyPatch) -> None:
-    program = tmp_path / "program"
-    program.write_text("#!/bin/sh\necho period '<site>' $(env | grep -c secret-of)\n")
-    program.chmod(0o755)
-    for name in SECRETS:
-        monkeypatch.setenv(name, f"secret-of-{name}")
-
-    async def of_the_fleet() -> bytes:
-        replay = await replays.Replay.start(str(program))
-        return (await replay.process.communicate())[0]
-
-    assert asyncio.run(of_the_fleet()) == b"period <site> 0\n"
-    assert forget.replayed(str(program), []) == b"period <site> 0\n"
-    program.write_text("#!/bin/sh\n[ $(env | grep -c secret-of) = 0 ] && echo total\n")
-    assert known_lines(str(program)) == {"period", "order", "settle"}
+    assert answered.Replay(str(program)).output.read() == (said or TUNABLES).encode()
 
 
 def test_escapes() -> None:
