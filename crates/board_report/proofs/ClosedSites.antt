@@ -1,9 +1,8 @@
 -- The figures of a closed desk's site, over its cells and over its stations' boards.
 use Rattle.std.{proofs.Common.{◌≡◌, ℕ, zero, suc, Bool, true, false, cond, eqb, eqb-true, List, [], ◌∷◌, Some, ◌<◌, length, map, get_or, refl, subst, sym, ◌∙◌, arith}, specs.Prelude.{filter, slice_get, IfOk, Result, Err, Ok}}
 use Rattle.ledger_model.{specs.Periods.Periods, specs.declared.figures.Figures.Figures, specs.declared.order.Order.Order, specs.Board.{Board, board_by, figures_by, site_board}, specs.Content.entries}
-use Rattle.site_desk.{specs.declared.plan.SitePlan.SitePlan, specs.declared.plan.StationPlan.StationPlan, specs.Close.{Ended, IsClosable}, specs.declared.roster.StationPlace.StationPlace, specs.Roster.{AreNewPlaces, Roster, StandsAt, new_place}}
+use Rattle.site_desk.{specs.declared.plan.SitePlan.SitePlan, specs.declared.plan.StationPlan.StationPlan, specs.Close.{Ended, IsClosable}, specs.declared.roster.StationPlace.StationPlace, specs.Roster.{AreNewPlaces, Roster, StandsAt, new_place}, specs.Cell.{Cell, Held}}
 use Rattle.site_book.specs.Book.{Known}
-use Rattle.station_cell.specs.Cell.{Cell, Held}
 use Rattle.board_report.{specs.Boards.{boards_at, site_named}, proofs.SiteBoards.some_same, specs.Closed.IsClosedOf}
 
 pub figures_alike : (order : Order) (period : Periods) (xs : List StationPlan) (cells : List Cell) (site : ℕ) → length cells ≡ length xs

@@ -2,8 +2,7 @@
 use Rattle.std.{proofs.Common.{◌≡◌, ◌≢◌, ℕ, zero, suc, ◌+◌, ◌<◌, ◌≤◌, true, false, Bool, cond, eqb, List, [], ◌∷◌, ◌++◌, Some, append-nil, length, map, take, refl, ap, sym, ◌∙◌, arith}, specs.Prelude.{filter, slice_get, sum_by}, proofs.lemmas.Bool.{eq-eqb, ne_eqb}, proofs.lemmas.List.Elements.{All-nil, All-cons}, proofs.lemmas.List.Sums.sum_by-cons}
 use Rattle.ledger_model.{specs.Periods.Periods, specs.declared.figures.Figures.Figures, specs.declared.order.Order.Order, specs.Board.{Board, board_by, site_board}, specs.Content.{Entry, entries}, specs.Limits.Bounds}
 use Rattle.board_report.{specs.Named.NamedBoard, specs.Sums.AreOfPeriod, specs.Plans.{AreBoardsWithin, IsBoardWithin}, specs.Boards.{boards_at, site_named}}
-use Rattle.site_desk.{specs.declared.plan.StationPlan.StationPlan, specs.Parts.limits_at}
-use Rattle.station_cell.specs.Cell.{Cell}
+use Rattle.site_desk.{specs.declared.plan.StationPlan.StationPlan, specs.Parts.limits_at, specs.Cell.Cell}
 
 -- what is read twice is one value
 pub some_same : {X : Type 0} (x y : X) → Some x ≡ Some y → x ≡ y

@@ -2,8 +2,7 @@
 use Rattle.std.specs.Prelude.{◌≡◌, ℕ, zero, suc, List, [], ◌++◌, length, map, slice_get, get_or, Some}
 use Rattle.ledger_model.specs.Board.{site_board}
 use Rattle.board_report.{specs.Named.NamedBoard, specs.Texts.board_text, specs.Boards.{AreOpenedFor, site_boards}}
-use Rattle.site_desk.{specs.declared.plan.SitePlan.SitePlan, specs.declared.plan.StationPlan.StationPlan, specs.Plan.{order_at, period_at}, specs.Close.{AreSummed, Ended}}
-use Rattle.station_cell.specs.Cell.{Cell}
+use Rattle.site_desk.{specs.declared.plan.SitePlan.SitePlan, specs.declared.plan.StationPlan.StationPlan, specs.Plan.{order_at, period_at}, specs.Close.{AreSummed, Ended}, specs.Cell.Cell}
 
 -- A closed desk of these sites and stations: each site has its book, each station its cell at its site, and each book's
 -- totals are the sums over its site's cells.

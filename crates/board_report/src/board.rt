@@ -10,7 +10,7 @@ use std::marker::Model;
 
 /// The board of a site: its name, its settlement periods, the order of its readings, its figures, its quarters with
 /// its periods with their energies in rising order, and its stations' boards by name, in the order of declaration.
-#[derive(Debug, Drop)]
+#[derive(Drop)]
 pub struct SiteBoard {
     pub(crate) name: Name,
     pub(crate) period: Periods,

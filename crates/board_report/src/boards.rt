@@ -6,8 +6,7 @@ ghost use Rattle.site_desk.specs.Parts.{limits_at};
 use crate::board::site_board;
 use crate::write::write_board;
 use ledger_model::{Figures, Name};
-use site_desk::Plan;
-use station_cell::StationCell;
+use site_desk::{Plan, StationCell};
 use station_ledger::StationBoard;
 use std::alloc::{AllocError, Global};
 

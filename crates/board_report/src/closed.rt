@@ -10,7 +10,7 @@ use std::alloc::{AllocError, Global};
 use std::io::Write;
 
 /// Why the boards of a closed desk are not all written.
-#[derive(Clone, Copy, Debug, PartialEq, Eq)]
+#[derive(Clone, Copy, Debug)]
 pub enum BoardsFault {
     /// There is no memory for a board.
     OutOfMemory,

@@ -3,11 +3,10 @@ ghost use Rattle.energy_flow.{specs.Flow.{no_energy, plus, minus, net, differenc
 
 use crate::Work;
 use std::alloc::Global;
-use std::fmt;
 use std::marker::Model;
 
 /// Energy that a register rose by and fell by, in milliwatt-hours, each below 2^64.
-#[derive(Clone, Copy, Debug, PartialEq, Eq)]
+#[derive(Clone, Copy, PartialEq, Eq)]
 pub struct Flow {
     up: u64,
     down: u64,
@@ -130,13 +129,6 @@ impl Level {
         ensures { result ≡ self }
     {
         self.mwh
-    }
-}
-
-// Prints a fixed word, since printing the number would be another look into it.
-impl fmt::Debug for Level {
-    fn fmt<W: fmt::Write>(&self, f: &mut fmt::Formatter<W>) -> fmt::Result {
-        f.write_str("Level")
     }
 }
 

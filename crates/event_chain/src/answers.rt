@@ -1,7 +1,7 @@
 use ledger_model::{EvseId, Kind};
 
 /// Whether there is room for an event under a new key; if not, the first limit that is reached.
-#[derive(Clone, Copy, Debug, PartialEq, Eq)]
+#[derive(Clone, Copy, PartialEq, Eq)]
 pub enum Room {
     /// There is room.
     Fits,
@@ -14,7 +14,7 @@ pub enum Room {
 }
 
 /// How an event is stored.
-#[derive(Clone, Copy, Debug, PartialEq, Eq)]
+#[derive(Clone, Copy, PartialEq, Eq)]
 pub enum Found {
     /// It counts.
     Live,
@@ -23,7 +23,7 @@ pub enum Found {
 }
 
 /// A summary of a transaction's live events.
-#[derive(Clone, Copy, Debug, PartialEq, Eq)]
+#[derive(Clone, Copy, PartialEq, Eq)]
 pub struct TxStanding {
     /// The lowest live number.
     pub first: Option<u32>,

@@ -12,7 +12,7 @@ use ledger_model::{EvseId, Kind, Moment};
 use std::alloc::{AllocError, Global};
 
 /// An event of a transaction, as a list of the transaction's events shows it.
-#[derive(Clone, Copy, Debug, PartialEq, Eq)]
+#[derive(Clone, Copy)]
 pub struct EventLine {
     /// Its sequence number, 0 to 2,147,483,647.
     pub number: u32,

@@ -1,6 +1,6 @@
 /// What the table keeps of a transaction: its slot, how many live events it has, and how many of these
 /// are Started or Ended.
-#[derive(Clone, Copy, Debug, PartialEq, Eq)]
+#[derive(Clone, Copy)]
 pub struct TableRow {
     /// The slot's number, which no other transaction of the table has.
     pub slot: u32,

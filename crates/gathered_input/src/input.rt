@@ -192,12 +192,14 @@ mod tests {
         Ok(bytes)
     }
 
+    type Gathering<'a> = GatheredInput<Steps<'a>, Fixed<'a>>;
+
     fn gathering<'a>(
         bytes: &'a [u8],
         step: usize,
         is_ready: bool,
         counts: (&'a Cell<usize>, &'a Cell<usize>),
-    ) -> GatheredInput<Steps<'a>, Fixed<'a>> {
+    ) -> Gathering<'a> {
         GatheredInput {
             input: Steps {
                 rest: bytes,
@@ -215,24 +217,36 @@ mod tests {
         }
     }
 
+    // Reads once for each expected entry, which is how many bytes the read gives (none: a fault) and how often the input
+    // was read by then. Whether all was so and the bytes came in their order.
+    fn are_read(
+        input: &mut Gathering<'_>,
+        bytes: &[u8],
+        read: &mut [u8],
+        expected: &[(Option<usize>, usize)],
+    ) -> bool {
+        let mut rest = bytes;
+        for &(given, reads) in expected {
+            if input.read(read).ok() != given || input.input.reads.get() != reads {
+                return false;
+            }
+            let count = given.unwrap_or(0);
+            if rest.get(..count) != read.get(..count) {
+                return false;
+            }
+            rest = rest.get(count..).unwrap_or(&[]);
+        }
+        true
+    }
+
     #[test]
     fn a_read_gathers_what_is_there_in_its_order(rt: HostRuntime) -> Result<(), Fail> {
         let bytes = some_bytes(rt.alloc())?;
         let (reads, looks) = (Cell::new(0), Cell::new(0));
         let mut input = gathering(&bytes, 40_000, true, (&reads, &looks));
-        let mut read = [0; 120_000];
-        assert_eq!(rt; input.read(&mut read)?, 120_000);
-        assert!(rt; bytes.get(..120_000) == Some(&read[..]));
-        assert_eq!(rt; reads.get(), 3);
-        // The rest. The next read reports the end.
-        assert_eq!(rt; input.read(&mut read)?, 80_000);
-        assert!(rt; bytes.get(120_000..) == read.get(..80_000));
-        assert_eq!(rt; reads.get(), 6);
-        assert_eq!(rt; input.read(&mut read)?, 0);
-        assert_eq!(rt; reads.get(), 6);
-        // A further read asks the input again.
-        assert_eq!(rt; input.read(&mut read)?, 0);
-        assert_eq!(rt; reads.get(), 7);
+        // The second read meets the end and gives the rest; the third tells the end, and a further one asks anew.
+        let expected = [(Some(120_000), 3), (Some(80_000), 6), (Some(0), 6), (Some(0), 7)];
+        assert!(rt; are_read(&mut input, &bytes, &mut [0; 120_000], &expected));
         Ok(())
     }
 
@@ -242,54 +256,39 @@ mod tests {
         let (reads, looks) = (Cell::new(0), Cell::new(0));
         let mut input = gathering(&bytes, 100_000, true, (&reads, &looks));
         input.input.later = 300;
-        let mut read = [0; 150_000];
-        assert_eq!(rt; input.read(&mut read)?, 100_300);
-        assert_eq!(rt; (reads.get(), looks.get()), (2, 1));
-        assert!(rt; bytes.get(..100_300) == read.get(..100_300));
-        assert_eq!(rt; input.read(&mut read)?, 300);
-        assert_eq!(rt; (reads.get(), looks.get()), (3, 1));
+        let expected = [(Some(100_300), 2), (Some(300), 3)];
+        assert!(rt; are_read(&mut input, &bytes, &mut [0; 150_000], &expected));
+        assert_eq!(rt; looks.get(), 1);
         Ok(())
+    }
+
+    // How often a read of an input that gives so many bytes looks for more; none if it does not give just these.
+    fn looks_for_more(bytes: &[u8], step: usize, is_ready: bool, is_gathering: bool) -> Option<usize> {
+        let (reads, looks) = (Cell::new(0), Cell::new(0));
+        let mut input = gathering(bytes, step, is_ready, (&reads, &looks));
+        input.is_gathering = is_gathering;
+        are_read(&mut input, bytes, &mut [0; 150_000], &[(Some(step), 1)]).then_some(looks.get())
     }
 
     #[test]
     fn nothing_is_waited_for(rt: HostRuntime) -> Result<(), Fail> {
         let bytes = some_bytes(rt.alloc())?;
-        let (reads, looks) = (Cell::new(0), Cell::new(0));
-        let mut read = [0; 150_000];
-        // So little that the read looks for no more.
-        let mut slow = gathering(&bytes, MUCH - 1, true, (&reads, &looks));
-        assert_eq!(rt; slow.read(&mut read)?, MUCH - 1);
-        assert_eq!(rt; (reads.get(), looks.get()), (1, 0));
-        // Much, and nothing comes behind it.
-        let mut once = gathering(&bytes, MUCH, false, (&reads, &looks));
-        assert_eq!(rt; once.read(&mut read)?, MUCH);
-        assert_eq!(rt; (reads.get(), looks.get()), (2, LOOKS));
-        // One processor.
-        let mut alone = gathering(&bytes, MUCH, true, (&reads, &looks));
-        alone.is_gathering = false;
-        assert_eq!(rt; alone.read(&mut read)?, MUCH);
-        assert_eq!(rt; (reads.get(), looks.get()), (3, LOOKS));
+        // So little that the read looks for no more; much, and nothing comes behind it; one processor.
+        assert_eq!(rt; looks_for_more(&bytes, MUCH - 1, true, true), Some(0));
+        assert_eq!(rt; looks_for_more(&bytes, MUCH, false, true), Some(LOOKS));
+        assert_eq!(rt; looks_for_more(&bytes, MUCH, true, false), Some(0));
         Ok(())
     }
 
     #[test]
     fn a_fault_is_told_behind_what_was_gathered(rt: HostRuntime) -> Result<(), Fail> {
         let bytes = some_bytes(rt.alloc())?;
+        let bytes = bytes.get(..50_000).unwrap_or(&[]);
         let (reads, looks) = (Cell::new(0), Cell::new(0));
-        let mut input = gathering(
-            bytes.get(..50_000).unwrap_or(&[]),
-            50_000,
-            true,
-            (&reads, &looks),
-        );
+        let mut input = gathering(bytes, 50_000, true, (&reads, &looks));
         input.input.fails = true;
-        let mut read = [0; 150_000];
-        assert_eq!(rt; input.read(&mut read)?, 50_000);
-        assert_eq!(rt; reads.get(), 2);
-        assert!(rt; input.read(&mut read).is_err());
-        assert_eq!(rt; reads.get(), 2);
-        assert!(rt; input.read(&mut read).is_err());
-        assert_eq!(rt; reads.get(), 3);
+        let expected = [(Some(50_000), 2), (None, 2), (None, 3)];
+        assert!(rt; are_read(&mut input, bytes, &mut [0; 150_000], &expected));
         Ok(())
     }
 }

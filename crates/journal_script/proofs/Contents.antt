@@ -3,8 +3,7 @@ use Rattle.std.{proofs.Common.{◌≡◌, ◌≢◌, ℕ, suc, ◌<◌, Bool, tr
 use Rattle.kept_desk.{specs.declared.entry.Entry.Entry, specs.Entries.of_station}
 use Rattle.ledger_model.{specs.declared.command.Command.Command, specs.Laws.left_by, specs.World.{Happens, run}, specs.WorldLaws.{commands_on, station_left}, proofs.Runs.each_by_its_own}
 use Rattle.script_ledgers.{specs.Drafts.{planned_world, site_name}, specs.Running.filled, specs.Script.new_station, proofs.Boards.one_place}
-use Rattle.site_desk.{specs.declared.plan.SitePlan.SitePlan, specs.declared.plan.StationPlan.StationPlan, specs.Plan.has_twice}
-use Rattle.station_cell.specs.Cell.{Cell}
+use Rattle.site_desk.{specs.declared.plan.SitePlan.SitePlan, specs.declared.plan.StationPlan.StationPlan, specs.Plan.has_twice, specs.Cell.Cell}
 use Rattle.journal_script.{specs.Journals.{AreLeft, IsSpoken, commands_of, station_name}, proofs.Steps.asked_in}
 
 -- ---- the station of an entry

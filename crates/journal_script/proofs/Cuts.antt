@@ -4,8 +4,7 @@ use Rattle.kept_desk.{specs.declared.entry.Entry.Entry, specs.Entries.{IsNote, e
 use Rattle.ledger_model.specs.declared.command.Command.{Command}
 use Rattle.script_lines.{specs.Lines.{HasNoFeed, ended, lines_of, unended}, specs.Ranges.longest_line, proofs.Cuts.cut-ended}
 use Rattle.script_ledgers.specs.Script.{Script, line_step, start, script_after}
-use Rattle.site_desk.{specs.declared.plan.SitePlan.SitePlan, specs.declared.plan.StationPlan.StationPlan}
-use Rattle.station_cell.specs.Cell.{Cell}
+use Rattle.site_desk.{specs.declared.plan.SitePlan.SitePlan, specs.declared.plan.StationPlan.StationPlan, specs.Cell.Cell}
 use Rattle.journal_script.{specs.Cuts.{BeginsNext, CutsAreScripts, HasWhole, IsMark}, specs.Journals.{EndsWhole, IsSpoken, Shows}, specs.Restoring.run_line, proofs.Journals.journals_are_scripts, proofs.LinesRead.both_whole, proofs.Notes.{comment_feedless, note_whole, noted_after}, proofs.LastByte.last, proofs.Spoiled.{Stays, spoiled}, proofs.Whole.{after_both, lines_apart}}
 
 -- ---- where a text is cut

@@ -4,8 +4,7 @@ use Rattle.board_report.proofs.SiteBoards.{some_same, stands}
 use Rattle.ledger_model.{specs.Content.empty_content, specs.Limits.default_limits, specs.Moment.first_moment, specs.Periods.Periods, specs.Ranges.{most_plan_readings, most_sites, most_stations}, specs.declared.order.Order.Order, specs.declared.order.Order.TheVariants.{Sequence, Moment}, specs.declared.settle.Settle.Settle, specs.declared.settle.Settle.TheVariants.{Later, Closing, Even}}
 use Rattle.script_ledgers.{proofs.Boards.at_site, proofs.SettledBy.{order_known, ordered_kept, period_known, settled_kept, settled_known}, specs.Drafts.{Drafted, IsPlan, planned, planned_world, site_name}, specs.Running.filled, specs.Script.{Script, is_period, lasting, new_station, settling, start, step_by}}
 use Rattle.script_lines.{specs.LineMeaning.{LineMeaning, nothing, sets_order, sets_period, sets_settle}, specs.Lines.lines_of, specs.Ranges.longest_line}
-use Rattle.site_desk.{proofs.NewParts.{planned_names, planned_sites}, specs.declared.fault.DeskFault.DeskFault, specs.declared.fault.DeskFault.TheVariants.{PlanLimit, StationTwice}, specs.declared.plan.SitePlan.SitePlan, specs.declared.plan.StationPlan.StationPlan, specs.Parts.{AreNewCells, row_at}, specs.Plan.{has_twice, is_within_limits, order_at, period_at, plan_fault, sites_changed}, specs.Roster.{AreCellsOf, StandsAt, new_place}}
-use Rattle.station_cell.specs.Cell.{Cell, new_cell}
+use Rattle.site_desk.{proofs.NewParts.{planned_names, planned_sites}, specs.declared.fault.DeskFault.DeskFault, specs.declared.fault.DeskFault.TheVariants.{PlanLimit, StationTwice}, specs.declared.plan.SitePlan.SitePlan, specs.declared.plan.StationPlan.StationPlan, specs.Parts.{AreNewCells, row_at}, specs.Plan.{has_twice, is_within_limits, order_at, period_at, plan_fault, sites_changed}, specs.Roster.{AreCellsOf, StandsAt, new_place}, specs.Cell.{Cell, new_cell}}
 use Rattle.journal_script.{specs.Head.{after, Adds, HasValues, IsHeadOf, are_in_order, order_meanings, settle_meanings, site_meanings, sites_meanings, stations_meanings}, specs.Cuts.run_begins, specs.Journals.HasOnce, proofs.Declaring.{all_back, all_joined, begins, steps, steps_both, steps_of_lines}, proofs.HeadLines.{adds_begin, adds_both, adds_mark}}
 
 all_placed : (n : ℕ) (stations : List StationPlan) → ((k : ℕ) (s : StationPlan) → slice_get stations k ≡ Some s → s.site < n) → All (λ s. s.site < n) stations

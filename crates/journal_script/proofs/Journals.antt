@@ -4,8 +4,7 @@ use Rattle.kept_desk.{specs.declared.entry.Entry.Entry, specs.Entries.text_of}
 use Rattle.ledger_model.{specs.declared.command.Command.Command, specs.World.run}
 use Rattle.script_lines.{specs.Lines.lines_of, specs.Ranges.longest_line}
 use Rattle.script_ledgers.{specs.Drafts.{planned_world, site_name}, specs.Running.filled, specs.Script.{Script, new_station, start, script_after}}
-use Rattle.site_desk.{specs.declared.plan.SitePlan.SitePlan, specs.declared.plan.StationPlan.StationPlan}
-use Rattle.station_cell.specs.Cell.{Cell}
+use Rattle.site_desk.{specs.declared.plan.SitePlan.SitePlan, specs.declared.plan.StationPlan.StationPlan, specs.Cell.Cell}
 use Rattle.journal_script.{specs.Journals.{JournalsAreScripts, station_name}, proofs.Contents.all_left, proofs.Steps.{Has, asked_in, has_here, has_more, takes_lines, takes_text}, proofs.Whole.{after_both, lines_apart}}
 
 -- each station of a plan is found by its name

@@ -2,7 +2,7 @@
 use Rattle.std.proofs.Common.{◌≡◌, ℕ, ◌||◌, Bool, true, false, List, [], ◌∷◌, ◌++◌, Option, refl, sym, ap, subst, ◌∙◌}
 use Rattle.script_lines.{specs.Lines.{Line, lines_of}, specs.Ranges.longest_line}
 use Rattle.script_ledgers.{specs.Drafts.Drafted, specs.Running.running, specs.Script.{Script, line_step, opened_script, script_after}}
-use Rattle.station_cell.specs.Cell.{Cell}
+use Rattle.site_desk.specs.Cell.{Cell}
 use Rattle.journal_script.{specs.declared.left_out.LeftOut.LeftOut, specs.declared.restored.Restored.Restored, specs.Journals.Shows, specs.Reading.{IsLeft, Leaves, ReadsTo, Standing, begun, read_line, read_lines, standing}, specs.Restoring.{IsRestored, IsUnmarked, ReadsToListen, is_lost, is_marked, loses, marked_by}}
 
 -- ---- ledgers

@@ -5,8 +5,7 @@ use Rattle.kept_desk.{specs.declared.entry.Entry.Entry, specs.Entries.{entry_tex
 use Rattle.ledger_model.specs.declared.command.Command.{Command}
 use Rattle.script_lines.{specs.Lines.lines_of, specs.Ranges.longest_line}
 use Rattle.script_ledgers.specs.Script.{start, script_after}
-use Rattle.site_desk.{specs.declared.plan.SitePlan.SitePlan, specs.declared.plan.StationPlan.StationPlan}
-use Rattle.station_cell.specs.Cell.{Cell}
+use Rattle.site_desk.{specs.declared.plan.SitePlan.SitePlan, specs.declared.plan.StationPlan.StationPlan, specs.Cell.Cell}
 use Rattle.journal_script.{specs.Journals.{AreLeft, EndsWhole, HasOnce, IsSpoken, Shows}, specs.Restoring.run_line}
 
 -- The bytes that are put behind a journal to restore it, before `listen`.

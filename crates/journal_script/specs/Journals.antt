@@ -5,8 +5,7 @@ use Rattle.kept_desk.{specs.declared.entry.Entry.Entry, specs.Entries.{IsNote, o
 use Rattle.ledger_model.{specs.declared.command.Command.Command, specs.Laws.left_by}
 use Rattle.script_lines.{specs.LineMeaning.{asks_board, line_meaning}, specs.Lines.{Line, lines_of}, specs.Ranges.longest_line}
 use Rattle.script_ledgers.{specs.Drafts.{planned_world, site_name}, specs.Running.filled, specs.Script.{Script, line_step, start, script_after}}
-use Rattle.site_desk.{specs.declared.plan.SitePlan.SitePlan, specs.declared.plan.StationPlan.StationPlan, specs.Plan.has_twice}
-use Rattle.station_cell.specs.Cell.{Cell}
+use Rattle.site_desk.{specs.declared.plan.SitePlan.SitePlan, specs.declared.plan.StationPlan.StationPlan, specs.Plan.has_twice, specs.Cell.Cell}
 
 -- The name of the station of this number.
 abbrev pub station_name : List StationPlan → ℕ → List ℕ

@@ -3,8 +3,7 @@ use Rattle.std.specs.Prelude.{◌≡◌, ℕ, List, ◌++◌, All, take}
 use Rattle.kept_desk.{specs.declared.entry.Entry.Entry, specs.Entries.{IsNote, text_of}}
 use Rattle.script_lines.{specs.Lines.lines_of, specs.Ranges.longest_line}
 use Rattle.script_ledgers.specs.Script.{Script, start, script_after}
-use Rattle.site_desk.{specs.declared.plan.SitePlan.SitePlan, specs.declared.plan.StationPlan.StationPlan}
-use Rattle.station_cell.specs.Cell.{Cell}
+use Rattle.site_desk.{specs.declared.plan.SitePlan.SitePlan, specs.declared.plan.StationPlan.StationPlan, specs.Cell.Cell}
 use Rattle.journal_script.{specs.Cuts.{HasWhole, restore_mark, run_begins}, specs.Journals.{AreLeft, EndsWhole, HasOnce, IsSpoken, Shows}}
 
 -- The state in which a replay of these bytes ends.

@@ -1,5 +1,5 @@
 use script_ledgers::Draft;
-use station_cell::{Pass, StationCell};
+use site_desk::{Pass, StationCell};
 
 /// The result of a restored script.
 #[derive(Drop)]

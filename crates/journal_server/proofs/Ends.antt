@@ -5,9 +5,8 @@ use Rattle.kept_desk.{specs.declared.entry.Entry.Entry, specs.Entries.{of_statio
 use Rattle.journal_script.{proofs.HeadLaw.has_once, specs.Head.after, specs.Journals.{AreLeft, HasOnce, IsSpoken, station_name}, proofs.Boards.boards_are_those_of_cells, proofs.Journals.journals_are_scripts, specs.Restoring.Grows}
 use Rattle.live_server.specs.Told.{Tells, operator_input}
 use Rattle.site_book.specs.Prefix.{IsPrefix}
-use Rattle.site_desk.{specs.declared.roster.StationPlace.StationPlace, specs.declared.plan.SitePlan.SitePlan, specs.declared.plan.StationPlan.StationPlan, specs.Plan.plan_fault, specs.Roster.{AreCellsOf, AreNewPlaces}, proofs.NewParts.{planned_names, planned_sites}}
+use Rattle.site_desk.{specs.declared.roster.StationPlace.StationPlace, specs.declared.plan.SitePlan.SitePlan, specs.declared.plan.StationPlan.StationPlan, specs.Plan.plan_fault, specs.Roster.{AreCellsOf, AreNewPlaces}, proofs.NewParts.{planned_names, planned_sites}, specs.Cell.Cell}
 use Rattle.ledger_model.{specs.Content.Content, specs.Limits.Bounds}
-use Rattle.station_cell.specs.Cell.{Cell}
 use Rattle.journal_server.{specs.Left.Left, specs.Served.{AreAccepted, AreLeftFrom, Declares, IsEnded, IsItsScript, IsKeptAnswer, IsNewRun, IsToldOf, Leaves, TellsNew, TellsRestored, joined}}
 use Rattle.script_lines.specs.Lines.{Line}
 

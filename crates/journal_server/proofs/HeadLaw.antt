@@ -3,8 +3,7 @@ use Rattle.std.{proofs.Common.{◌≡◌, ℕ, List, [], ◌∷◌, All, length,
 use Rattle.board_report.proofs.SiteBoards.{some_same, stands}
 use Rattle.ledger_model.specs.Content.{empty_content}
 use Rattle.script_ledgers.{specs.Drafts.{planned, planned_world, site_name}, specs.Running.filled, specs.Script.new_station}
-use Rattle.site_desk.{specs.declared.plan.SitePlan.SitePlan, specs.declared.plan.StationPlan.StationPlan, specs.Parts.{AreNewCells, row_at}, specs.Plan.{order_at, period_at}, specs.Roster.{AreCellsOf, StandsAt, new_place}}
-use Rattle.station_cell.specs.Cell.{Cell, new_cell}
+use Rattle.site_desk.{specs.declared.plan.SitePlan.SitePlan, specs.declared.plan.StationPlan.StationPlan, specs.Parts.{AreNewCells, row_at}, specs.Plan.{order_at, period_at}, specs.Roster.{AreCellsOf, StandsAt, new_place}, specs.Cell.{Cell, new_cell}}
 use Rattle.journal_script.specs.Head.{IsHeadOf}
 use Rattle.journal_server.specs.Served.{Leaves}
 

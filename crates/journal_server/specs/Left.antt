@@ -1,6 +1,6 @@
 -- The result of a server with a journal.
 use Rattle.std.specs.Prelude.{ℕ, Bool, List, Option}
-use Rattle.station_cell.specs.Cell.{Held}
+use Rattle.site_desk.specs.Cell.{Held}
 use Rattle.journal_server.specs.declared.run.Served.{Served}
 
 -- The result of a server: the bytes that the writer of its journal has, those that its buffer kept,

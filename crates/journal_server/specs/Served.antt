@@ -7,10 +7,9 @@ use Rattle.ledger_model.{specs.declared.answer.Answer.Answer, specs.declared.com
 use Rattle.site_book.{specs.Book.Known, specs.Prefix.IsPrefix}
 use Rattle.script_lines.{specs.LineMeaning.{asks_board, line_meaning}, specs.Lines.{Line, lines_of}, specs.Ranges.longest_line}
 use Rattle.script_ledgers.{specs.Drafts.site_name, specs.Script.{Script, line_step, start, script_after}}
-use Rattle.site_desk.{specs.declared.plan.SitePlan.SitePlan, specs.declared.plan.StationPlan.StationPlan, specs.declared.roster.StationPlace.StationPlace, specs.Roster.AreNewPlaces, specs.Close.changes_of}
+use Rattle.site_desk.{specs.declared.plan.SitePlan.SitePlan, specs.declared.plan.StationPlan.StationPlan, specs.declared.roster.StationPlace.StationPlace, specs.Roster.AreNewPlaces, specs.Close.changes_of, specs.Cell.{Cell, Held}}
 use Rattle.live_server.{specs.Browsing.IsSeenWithBoards, specs.Told.{Tells, operator_input}}
 use Rattle.running_desk.specs.Ordered.{lines_in}
-use Rattle.station_cell.specs.Cell.{Cell, Held}
 use Rattle.station_link.specs.Attended.{IsAnswered}
 use Rattle.journal_server.specs.Left.{Left}
 

@@ -14,8 +14,7 @@ use journal_script::{RestoreFault, are_in_order, journal_head, restore, run_head
 use live_server::Live;
 use running_desk::{Host, Input, Output, ServiceFault};
 use script_lines::write_bytes;
-use site_desk::{CloseFault, Plan};
-use station_cell::StationCell;
+use site_desk::{CloseFault, Plan, StationCell};
 use std::io;
 use std::io::{BufWriter, Sink, Write};
 use std::net::TcpListener;
@@ -24,7 +23,7 @@ use std::net::TcpListener;
 const TORN: ServiceFault = ServiceFault::Close(CloseFault::Torn);
 
 /// The options of a server with a journal.
-#[derive(Clone, Copy, Debug)]
+#[derive(Clone, Copy)]
 pub struct Journalling {
     /// Those of a live server.
     pub live: Live,
@@ -33,7 +32,7 @@ pub struct Journalling {
 }
 
 /// The options of a restored server.
-#[derive(Clone, Copy, Debug)]
+#[derive(Clone, Copy)]
 pub struct Restoring {
     /// Those of a server with a journal.
     pub journalling: Journalling,

@@ -2,8 +2,7 @@
 use Rattle.std.{proofs.Common.{◌≡◌, ◌≢◌, ℕ, ◌≤◌, ◌<◌, List, Option, Some, Result, Ok, Err, length, ap, sym, ◌∙◌, subst, arith, slice_get}, specs.Prelude.IfOk, proofs.lemmas.Option.slice_get_within}
 use Rattle.kept_desk.{specs.declared.entry.Entry.Entry, specs.Entries.of_station, specs.Kept.{AreBoardsBehind, IsLeftFrom, IsLeftOwn, commands_of}}
 use Rattle.ledger_model.{specs.Board.Board, specs.Content.Content, specs.Limits.Bounds}
-use Rattle.site_desk.{specs.declared.roster.StationPlace.StationPlace, specs.Operator.AreNotedBoards}
-use Rattle.station_cell.specs.Cell.{IsInService}
+use Rattle.site_desk.{specs.declared.roster.StationPlace.StationPlace, specs.Operator.AreNotedBoards, specs.Cell.IsInService}
 
 pub behind : (first : ℕ → Content) (places : List StationPlace) (site : ℕ) (boards : List (List ℕ × Board)) (moment : List Entry)
     → length places ≤ 64 → AreNotedBoards (λ c. IsLeftOwn first moment c) places site boards

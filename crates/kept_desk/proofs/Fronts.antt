@@ -2,7 +2,7 @@
 use Rattle.std.{proofs.Common.{◌≡◌, ℕ, zero, suc, ◌+◌, ◌<◌, eqb, cond, List, [], ◌∷◌, ◌++◌, length, refl, ap, sym, ◌∙◌, subst, arith, eq-eqb, length-append}, proofs.lemmas.List.map-append, proofs.lemmas.List.Elements.{All-nil, All-cons, All-head, All-tail, filter-append}, specs.Prelude.All}
 use Rattle.kept_desk.{specs.declared.entry.Entry.Entry, specs.Entries.of_station, specs.Kept.{IsAcceptedBehind, IsLeftFrom, commands_of}}
 use Rattle.ledger_model.{specs.declared.answer.Answer.Answer, specs.declared.answer.Answer.TheVariants.{Accepted, Repeat, Refused}, specs.declared.command.Command.Command, specs.Admissible.IsAdmissible, specs.Content.Content, specs.Laws.{AreAccepted, IsAccepted, left_by}, specs.Limits.Bounds, specs.Step.{answer, step}, proofs.Callers.is_counted}
-use Rattle.station_cell.proofs.Counts.{one_more}
+use Rattle.site_desk.proofs.Counts.{one_more}
 
 -- a list of accepted commands, cut in two
 accepted_cut : (limits : Bounds) (c : Content) (xs ys : List Command) → AreAccepted limits c (xs ++ ys) → AreAccepted limits c xs × AreAccepted limits (left_by limits c xs) ys

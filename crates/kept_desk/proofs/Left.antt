@@ -2,7 +2,7 @@
 use Rattle.std.{proofs.Common.{◌≡◌, ℕ, ◌+◌, List, [], ◌∷◌, ◌++◌, refl, ap, sym, ◌∙◌, subst, arith, length-append}, proofs.lemmas.List.map-append, proofs.lemmas.List.Elements.{All-nil, All-push}}
 use Rattle.kept_desk.{specs.declared.entry.Entry.Entry, specs.Entries.entry, specs.Journal.OwnEntries, specs.Kept.{IsKeptCell, IsLeftFrom, commands_of}}
 use Rattle.ledger_model.{specs.declared.command.Command.Command, specs.Admissible.IsAdmissible, specs.Content.Content, specs.Laws.{AreAccepted, IsAccepted, left_by}, specs.Limits.Bounds, specs.Step.{answer, step}, proofs.Callers.is_counted}
-use Rattle.station_cell.{specs.Cell.{Cell, Held}, specs.Settle.cell_after, proofs.Counts.one_more}
+use Rattle.site_desk.{specs.Cell.{Cell, Held}, specs.Settle.cell_after, proofs.Counts.one_more}
 
 -- commands that are accepted, behind others
 pub accepted_append : (limits : Bounds) (c : Content) (xs ys : List Command) → AreAccepted limits c xs → AreAccepted limits (left_by limits c xs) ys → AreAccepted limits c (xs ++ ys)

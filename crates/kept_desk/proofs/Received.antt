@@ -3,8 +3,7 @@ use Rattle.std.{proofs.Common.{◌≡◌, ℕ, List, [], ◌∷◌, ◌++◌, Op
 use Rattle.kept_desk.{specs.declared.broken.Broken.Broken, specs.declared.entry.Entry.Entry, specs.Entries.{entry, of_station}, specs.Journal.{Ledger, OwnEntries}, specs.Kept.{IsGiven, IsKeptCell, IsLeftFrom, IsNoted, IsReceived, commands_of, given_with}}
 use Rattle.ledger_model.{specs.declared.answer.Answer.Answer, specs.declared.answer.Answer.TheVariants.{Accepted, Repeat, Refused}, specs.declared.command.Command.Command, specs.Content.Content, specs.Limits.Bounds}
 use Rattle.site_book.specs.Book.{Known}
-use Rattle.site_desk.{specs.declared.roster.StationPlace.StationPlace, specs.Roster.StandsAt, specs.Submit.TellsOf}
-use Rattle.station_cell.specs.Cell.{Cell}
+use Rattle.site_desk.{specs.declared.roster.StationPlace.StationPlace, specs.Roster.StandsAt, specs.Submit.TellsOf, specs.Cell.Cell}
 
 -- a share with an entry added, and its receipt
 pub noted : (r : Result (List Entry) Broken) (share : OwnEntries) (e : Entry) (log now : Ledger) → OnOk r (share.entries ≡ of_station share.station log.entries) → IfOk r (λ x. x ≡ now.entries)

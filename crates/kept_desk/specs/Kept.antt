@@ -2,8 +2,7 @@ use Rattle.std.specs.Prelude.{◌≡◌, ℕ, ◌+◌, ◌≤◌, Bool, List, []
 use Rattle.kept_desk.{specs.declared.entry.Entry.Entry, specs.Entries.of_station, specs.Journal.{IsWritten, OwnEntries}, specs.Speaking.AreSpoken}
 use Rattle.ledger_model.{specs.declared.answer.Answer.Answer, specs.declared.answer.Answer.TheVariants.{Accepted, Repeat, Refused}, specs.declared.command.Command.Command, specs.Admissible.IsAdmissible, specs.Board.{Board, board_by}, specs.Content.{Content, entries}, specs.Laws.{AreAccepted, left_by}, specs.Limits.Bounds, specs.Step.answer}
 use Rattle.site_book.{specs.Book.Known, specs.Prefix.IsPrefix}
-use Rattle.site_desk.{specs.declared.roster.StationPlace.StationPlace, specs.Operator.before_at, specs.Submit.IsTakenAt}
-use Rattle.station_cell.specs.Cell.{Cell, IsInService}
+use Rattle.site_desk.{specs.declared.roster.StationPlace.StationPlace, specs.Operator.before_at, specs.Submit.IsTakenAt, specs.Cell.{Cell, IsInService}}
 
 -- The commands of entries, in their order.
 abbrev pub commands_of : List Entry → List Command

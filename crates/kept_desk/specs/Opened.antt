@@ -1,7 +1,6 @@
 use Rattle.std.specs.Prelude.{◌≡◌, ℕ, List, [], Option, None, Some, slice_get}
 use Rattle.ledger_model.specs.Content.{Content, empty_content}
-use Rattle.site_desk.specs.declared.plan.StationPlan.{StationPlan}
-use Rattle.station_cell.specs.Cell.{Cell}
+use Rattle.site_desk.{specs.declared.plan.StationPlan.StationPlan, specs.Cell.Cell}
 
 -- The content of a cell, if there is the cell.
 abbrev pub content_or_empty : Option Cell → Content

@@ -1,7 +1,7 @@
 use script_lines::WriteStopped;
 
 /// The journal takes no more lines: a write or a flush failed, at this line or at an earlier one.
-#[derive(Clone, Copy, Debug, PartialEq, Eq)]
+#[derive(Clone, Copy)]
 pub struct Broken;
 
 impl From<WriteStopped> for Broken {

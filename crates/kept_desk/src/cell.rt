@@ -1,9 +1,8 @@
 ghost use Rattle.std.specs.Prelude.{◌≡◌, List, [], ◌∷◌, ◌++◌, length, IfOk};
 ghost use Rattle.kept_desk.{specs.Entries.{IsNote, bytes_of, entry, of_station}, specs.Kept.{IsLeftOwn, IsReceived, KeepsCell, given_with}, specs.Speaking.SpeaksOf};
 ghost use Rattle.ledger_model.specs.Laws.{IsAccepted};
-ghost use Rattle.station_cell.{specs.Cell.IsInService, specs.Settle.cell_after};
+ghost use Rattle.site_desk.{specs.Cell.IsInService, specs.Settle.cell_after, specs.Submit.{CanJudge, Submitted, TellsOf}};
 ghost use Rattle.station_ledger.specs.Judged.{IsJudged};
-ghost use Rattle.site_desk.specs.Submit.{CanJudge, Submitted, TellsOf};
 
 use crate::broken::Broken;
 use crate::journal::Journal;
@@ -13,8 +12,7 @@ use crate::share::Share;
 use crate::way::Journalled;
 use ledger_model::{Answer, Command, Refusal};
 use site_book::{Naming, SiteBook, Told};
-use site_desk::{HasCell, Located, settle_at};
-use station_cell::{Pass, StationCell, TooManyPasses, enlist_cell};
+use site_desk::{HasCell, Located, Pass, StationCell, TooManyPasses, enlist_cell, settle_at};
 use station_ledger::Judgement;
 use std::io::Write;
 use std::marker::Model;
@@ -31,7 +29,7 @@ pub struct KeptCell<K: Opening> {
 }
 
 impl<K: Opening> Model for KeptCell<K> {
-    ghost use Rattle.station_cell.specs.Cell.{Cell, cell_code};
+    ghost use Rattle.site_desk.specs.Cell.{Cell, cell_code};
     ghost use Rattle.kept_desk.specs.Kept.{KeepsCell};
 
     ghost Value = { Cell };

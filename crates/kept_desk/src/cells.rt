@@ -1,7 +1,7 @@
 //! Cells with their shares, and without them.
 ghost use Rattle.std.specs.Prelude.{◌≡◌, ℕ, ◌+◌, ◌≤◌, [], ◌++◌, length, IfOk, OnOk, Some, All, slice_get, vec_len, vec_capacity};
 ghost use Rattle.kept_desk.{specs.Entries.of_station, specs.Kept.{IsLeftFrom, commands_of}, specs.Opened.AreFirst};
-ghost use Rattle.station_cell.specs.Cell.{Cell, IsInService};
+ghost use Rattle.site_desk.specs.Cell.{Cell, IsInService};
 ghost use Rattle.site_book.specs.Prefix.{IsPrefix};
 
 use crate::cell::KeptCell;
@@ -9,7 +9,7 @@ use crate::journal::Journal;
 use crate::moment::Moment;
 use crate::opening::Opening;
 use ledger_model::Command;
-use station_cell::StationCell;
+use site_desk::StationCell;
 use std::alloc::{AllocError, Global};
 use std::io::Write;
 

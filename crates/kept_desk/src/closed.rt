@@ -3,8 +3,7 @@ use crate::moment::Moment;
 use crate::opening::Opening;
 use ledger_model::Listed;
 use site_book::{Naming, Viewer};
-use site_desk::{CloseFault, Closed};
-use station_cell::Pass;
+use site_desk::{CloseFault, Closed, Pass};
 use std::io::{BufWriter, Write};
 
 /// A desk with a journal that was closed.

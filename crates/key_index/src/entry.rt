@@ -8,7 +8,7 @@ use std::alloc::AllocError;
 use std::marker::Model;
 
 /// A key, and what is filed under it. Contracts see the key's rank.
-#[derive(Copy, Debug)]
+#[derive(Copy)]
 pub struct Entry<K: Ranked, V: Copy> {
     key: K,
     filed: Filed<V>,

@@ -3,7 +3,7 @@ ghost use Rattle.std.specs.Prelude.{◌≡◌};
 ghost use Rattle.key_index.specs.Marks.{has_mark};
 
 /// The marks of an entry. What they mean is its owner's choice.
-#[derive(Clone, Copy, Debug, PartialEq, Eq)]
+#[derive(Clone, Copy, PartialEq, Eq)]
 pub struct Marks {
     /// The entry counts.
     pub live: bool,
@@ -16,7 +16,7 @@ pub struct Marks {
 }
 
 /// One of the marks that an entry may have.
-#[derive(Clone, Copy, Debug, PartialEq, Eq)]
+#[derive(Clone, Copy)]
 pub enum Mark {
     /// `Marks::live`.
     Live,
@@ -29,7 +29,7 @@ pub enum Mark {
 }
 
 /// What is filed under a key.
-#[derive(Clone, Copy, Debug, PartialEq, Eq)]
+#[derive(Clone, Copy, PartialEq, Eq)]
 pub struct Filed<V> {
     /// The value.
     pub value: V,

@@ -19,7 +19,7 @@ pub trait Ranked: Copy {
 
 /// A transaction's slot and a sequence number below 2^31. Contracts see a key as its rank, the slot
 /// times 2^31 and the number, so keys are ordered by transaction first.
-#[derive(Clone, Copy, Debug, PartialEq, Eq)]
+#[derive(Clone, Copy, PartialEq, Eq)]
 pub struct IndexKey {
     // The comparison reads both as one number.
     number: u32,

@@ -2,7 +2,7 @@
 
 /// A place in an index, as a hint: each call that takes one tests it, and searches if it is not the
 /// place of the call's key.
-#[derive(Clone, Copy, Debug, PartialEq, Eq)]
+#[derive(Clone, Copy, PartialEq, Eq)]
 pub struct KeyPlace {
     pub(crate) leaf: usize,
     pub(crate) entry: usize,

@@ -5,7 +5,7 @@ use crate::Direction;
 use energy_flow::Flow;
 
 /// One value for each direction.
-#[derive(Clone, Copy, Debug, PartialEq, Eq)]
+#[derive(Clone, Copy, PartialEq, Eq)]
 pub struct ByDirection<T> {
     /// The value for the import register.
     pub import: T,

@@ -3,7 +3,7 @@ ghost use Rattle.std.specs.Prelude.{◌≡◌};
 use crate::{Event, Key};
 
 /// What one station's ledger may be asked to do (this product's profile).
-#[derive(Debug, Drop)]
+#[derive(Drop)]
 pub enum Command {
     /// Store an event that the station sent; it counts.
     Deliver(Key, Event),

@@ -9,7 +9,7 @@ pub const MAX_EVENT_READINGS: usize = 1_024;
 
 /// A transaction event: its kind, its moment, the EVSE that it names, and its counted readings in the
 /// order sent (TransactionEventRequest, OCPP 2.0.1 Part 2, block E).
-#[derive(Debug, Drop)]
+#[derive(Drop)]
 pub struct Event {
     kind: Kind,
     moment: Moment,

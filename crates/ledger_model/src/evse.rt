@@ -8,7 +8,7 @@ pub const GREATEST_EVSE: u8 = 64;
 
 /// The number of an EVSE of a station, 1 to 64 (EVSEType, OCPP 2.0.1 Part 2, block E). A board shows
 /// transactions that name no EVSE under 0; no event may name that number.
-#[derive(Clone, Copy, Debug, PartialEq, Eq, PartialOrd, Ord)]
+#[derive(Clone, Copy, PartialEq, Eq)]
 pub struct EvseId {
     number: u8,
 }

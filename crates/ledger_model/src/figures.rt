@@ -6,7 +6,7 @@ use crate::{GREATEST_READING, Limits};
 pub const FIGURES: usize = 9;
 
 /// The numbers that sum up a station or a site.
-#[derive(Clone, Copy, Debug, PartialEq, Eq)]
+#[derive(Clone, Copy, PartialEq, Eq)]
 pub struct Figures {
     /// Events that are stored and not voided.
     pub events: u64,

@@ -10,7 +10,7 @@ pub const SEQUENCE_END: u32 = 1 << 31;
 /// What identifies an event of a station: its transaction and its sequence number, 0 to
 /// 2,147,483,647 (`transactionId` and `seqNo` of TransactionEventRequest, OCPP 2.0.1 Part 2, block
 /// E). Keys are ordered by the bytes of the transaction id, then by the number.
-#[derive(Debug, PartialEq, Eq, PartialOrd, Ord, Drop)]
+#[derive(PartialEq, Eq, Drop)]
 pub struct Key {
     tx: TxId,
     seq: u32,

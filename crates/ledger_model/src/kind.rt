@@ -1,6 +1,6 @@
 /// What a transaction event reports: its transaction started, went on or ended
 /// (TransactionEventRequest, OCPP 2.0.1 Part 2, block E).
-#[derive(Clone, Copy, Debug, PartialEq, Eq)]
+#[derive(Clone, Copy, PartialEq, Eq)]
 pub enum Kind {
     /// The transaction started.
     Started,

@@ -26,7 +26,7 @@ pub const MAX_PLAN_READINGS: u64 = 1_048_576;
 
 /// What one station's ledger may keep: transactions, events and readings stored at once, and changes
 /// accepted in all.
-#[derive(Clone, Copy, Debug, PartialEq, Eq)]
+#[derive(Clone, Copy, PartialEq, Eq)]
 pub struct Limits {
     transactions: u32,
     events: u32,

@@ -4,7 +4,7 @@ use std::marker::Model;
 
 /// A list that a public type keeps; contracts see it as a list. To make it from a `Vec` and to give
 /// that back takes no memory.
-#[derive(Debug, Drop)]
+#[derive(Drop)]
 pub struct Listed<T> {
     items: Vec<T>,
 }

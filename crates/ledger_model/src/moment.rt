@@ -17,7 +17,7 @@ pub const FIRST_QUARTER: u32 = 262_968;
 pub const LAST_QUARTER: u32 = 13_674_815;
 
 /// An instant of the years 2000 to 2099, in nanoseconds since 1970-01-01T00:00:00Z.
-#[derive(Clone, Copy, Debug, PartialEq, Eq, PartialOrd, Ord)]
+#[derive(Clone, Copy, PartialEq, Eq)]
 pub struct Moment {
     nanos: u64,
 }
@@ -70,7 +70,7 @@ impl Moment {
 /// One settlement period, by its number: how many whole ones of its length fit between
 /// 1970-01-01T00:00:00Z and its beginning. Its length is the [`Period`](crate::Period) that it was
 /// counted by.
-#[derive(Clone, Copy, Debug, PartialEq, Eq, PartialOrd, Ord)]
+#[derive(Clone, Copy, PartialEq, Eq)]
 pub struct Quarter {
     number: u32,
 }

@@ -10,7 +10,7 @@ pub const MAX_NAME: usize = 48;
 
 /// The name of a site or a station: 1 to 48 characters of `A-Z a-z 0-9 * - _ = : + | @ .`, compared
 /// exactly (this product's profile).
-#[derive(Debug, Drop)]
+#[derive(Drop)]
 pub struct Name {
     text: ArrayString<MAX_NAME>,
 }

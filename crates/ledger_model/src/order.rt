@@ -1,6 +1,6 @@
 /// The order in which a site takes the readings of a transaction (MeterValueType, OCPP 2.0.1 Part 2,
 /// J02). What is equal, live, missing, complete or refused does not depend on it.
-#[derive(Clone, Copy, Debug, PartialEq, Eq)]
+#[derive(Clone, Copy)]
 pub enum Order {
     /// By the sequence numbers of their events, and within an event as sent.
     Sequence,

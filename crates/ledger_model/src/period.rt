@@ -4,7 +4,7 @@ ghost use Rattle.ledger_model.specs.Quarter.{IsPeriod};
 use std::marker::Model;
 
 /// The length of a market's settlement period: 300, 900, 1,800 or 3,600 seconds.
-#[derive(Clone, Copy, Debug, PartialEq, Eq)]
+#[derive(Clone, Copy, PartialEq, Eq)]
 pub struct Period {
     seconds: u16,
 }

@@ -6,7 +6,7 @@ use crate::settle::Settle;
 use std::marker::Model;
 
 /// The settlement periods of a site: their length, and the rule by which differences count in them.
-#[derive(Clone, Copy, Debug, PartialEq, Eq)]
+#[derive(Clone, Copy, PartialEq, Eq)]
 pub struct Periods {
     length: Period,
     rule: Settle,

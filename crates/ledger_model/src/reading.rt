@@ -11,7 +11,7 @@ pub const GREATEST_READING: u64 = 10_000_000_000_000;
 
 /// Which active energy register a reading is of (the measurand of a SampledValueType, OCPP 2.0.1
 /// Part 2, J02).
-#[derive(Clone, Copy, Debug, PartialEq, Eq)]
+#[derive(Clone, Copy, PartialEq, Eq)]
 pub enum Direction {
     /// What the vehicle took: `Energy.Active.Import.Register`.
     Import,
@@ -21,7 +21,7 @@ pub enum Direction {
 
 /// A counted reading of an active energy register: its moment, its level in milliwatt-hours, and its
 /// direction (MeterValueType, OCPP 2.0.1 Part 2, J02).
-#[derive(Clone, Copy, Debug, PartialEq, Eq)]
+#[derive(Clone, Copy, PartialEq, Eq)]
 pub struct Reading {
     moment: Moment,
     level: Level,

@@ -1,6 +1,6 @@
 /// Which settlement period the difference of two readings counts in (MeterValueType, OCPP 2.0.1 Part 2,
 /// J02; the rules are this product's profile).
-#[derive(Clone, Copy, Debug, PartialEq, Eq)]
+#[derive(Clone, Copy, PartialEq, Eq)]
 pub enum Settle {
     /// The period that the later reading lies in. A reading right at the start of a period brings its
     /// difference into the period that starts there.

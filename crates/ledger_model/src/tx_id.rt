@@ -12,7 +12,7 @@ pub const MAX_TX_ID: usize = 36;
 /// The id of a transaction: 1 to 36 visible ASCII characters, compared and printed with A to Z turned
 /// into a to z (transactionInfo of TransactionEventRequest, OCPP 2.0.1 Part 2, block E; the folding is
 /// this product's profile).
-#[derive(Debug, Drop)]
+#[derive(Drop)]
 pub struct TxId {
     text: ArrayString<MAX_TX_ID>,
 }

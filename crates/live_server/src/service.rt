@@ -12,8 +12,7 @@ use crate::shared::{Shared, Viewers};
 use core::thread::{Anything, Stack};
 use running_desk::{Host, Input, Output, Running, Serves, ServiceFault};
 use site_book::Viewer;
-use site_desk::Plan;
-use station_cell::Pass;
+use site_desk::{Pass, Plan};
 use station_link::Delivers;
 use std::alloc::Global;
 use std::net::TcpListener;
@@ -28,7 +27,7 @@ const SESSION_STACK: usize = 8 * 1024 * 1024;
 const SMALL_STACK: usize = 1024 * 1024;
 
 /// The options of a live server.
-#[derive(Clone, Copy, Debug)]
+#[derive(Clone, Copy)]
 pub struct Live {
     /// The port of 127.0.0.1 that it listens on; for 0 the system chooses one.
     pub port: u16,

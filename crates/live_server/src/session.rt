@@ -10,7 +10,7 @@ use crate::shared::Shared;
 use arrayvec::ArrayString;
 use ledger_model::Name;
 use running_desk::{Serves, SystemMoments};
-use station_cell::Pass;
+use site_desk::Pass;
 use station_link::{Attendant, Client, Greeted, SessionEnd, greet, refuse, serve_session};
 use std::cell::Cell;
 use std::io::Write;

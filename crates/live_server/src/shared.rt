@@ -9,7 +9,7 @@ use crate::session_answers::SessionAnswers;
 use crate::workers::Workers;
 use running_desk::{Running, Serves};
 use site_book::Viewer;
-use station_cell::Pass;
+use site_desk::Pass;
 use station_link::Delivers;
 use std::alloc::{AllocError, Global};
 use std::io::Write;

@@ -5,10 +5,9 @@ use Rattle.journal_script.specs.Restoring.{Grows}
 use Rattle.kept_desk.specs.Opened.{contents_of}
 use Rattle.live_server.specs.Told.{operator_input}
 use Rattle.running_desk.{specs.Ordered.lines_in, specs.declared.fault.ServiceFault.ServiceFault}
-use Rattle.site_desk.{specs.declared.plan.SitePlan.SitePlan, specs.declared.plan.StationPlan.StationPlan}
+use Rattle.site_desk.{specs.declared.plan.SitePlan.SitePlan, specs.declared.plan.StationPlan.StationPlan, specs.Cell.Held}
 use Rattle.script_lines.specs.Writing.{WritesFront}
 use Rattle.script_replay.specs.Whole.{HasOutput, Writes}
-use Rattle.station_cell.specs.Cell.{Held}
 use Rattle.ocpp_board.{specs.declared.run.Ran.Ran, specs.Run.{IsJournalRun, IsServerEnd, IsUnwrittenRun}, specs.Serving.{EndsJournalled, EndsUnwritten}}
 
 -- a front of bytes, behind others

@@ -14,7 +14,7 @@ use crate::report::refuse_plan;
 use crate::serving::{journalled, live, restored, restored_live, simulated};
 use clap::Error;
 use script_replay::{Ended, ReplayFault, end_run, refuse, run_replay, show};
-use station_cell::Pass;
+use site_desk::Pass;
 use std::alloc::Global;
 use std::convert::AsStr;
 use std::io::{ErrorKind, Write};

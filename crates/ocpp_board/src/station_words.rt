@@ -7,7 +7,7 @@ use site_desk::Plan;
 
 /// Why words make no plan, with the word at fault. The first fault that applies, in this order, is
 /// reported.
-#[derive(Clone, Copy, Debug)]
+#[derive(Clone, Copy)]
 pub enum WordFault<'a> {
     /// The words of the limits are not four decimals, each in its range.
     BadLimits,

@@ -2,7 +2,7 @@ ghost use Rattle.std.specs.Prelude.{◌≡◌};
 
 /// The actions of a station that this product answers (OCPP 2.0.1 Part 2; the choice is this
 /// product's profile).
-#[derive(Clone, Copy, Debug, PartialEq, Eq)]
+#[derive(Clone, Copy)]
 pub enum Action {
     /// The station has started.
     BootNotification,

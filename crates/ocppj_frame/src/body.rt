@@ -5,7 +5,7 @@ ghost use Rattle.ocppj_frame.specs.Reply.{body_bytes};
 use arrayvec::ArrayString;
 
 /// The payload of a CALLRESULT (OCPP 2.0.1 Part 4).
-#[derive(Clone, Copy, Debug, PartialEq, Eq)]
+#[derive(Clone, Copy)]
 pub enum Body {
     /// An object with no member.
     Empty,

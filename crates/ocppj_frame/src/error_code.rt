@@ -2,7 +2,7 @@ ghost use Rattle.std.specs.Prelude.{◌≡◌, ◌≤◌, length};
 
 /// The error codes that this product puts into a CALLERROR (OCPP 2.0.1 Part 4); which fault takes which
 /// code is this product's profile.
-#[derive(Clone, Copy, Debug, PartialEq, Eq)]
+#[derive(Clone, Copy)]
 pub enum ErrorCode {
     /// The payload is no object, or is not of the action's form.
     FormatViolation,

@@ -6,7 +6,7 @@ use crate::numeral::Numeral;
 use crate::scale::scaled;
 
 /// The unit of a sampled value of energy (OCPP 2.0.1 Part 2, J02).
-#[derive(Clone, Copy, Debug, PartialEq, Eq)]
+#[derive(Clone, Copy)]
 pub enum Unit {
     /// Watt-hours, the unit if a sampled value names none.
     Wh,
@@ -16,7 +16,7 @@ pub enum Unit {
 
 /// Why a token is no reading of a register. The first fault that applies, in this order, is
 /// reported.
-#[derive(Clone, Copy, Debug, PartialEq, Eq)]
+#[derive(Clone, Copy, PartialEq, Eq)]
 pub enum DecimalFault {
     /// The token is no number of RFC 8259.
     NotADecimal,

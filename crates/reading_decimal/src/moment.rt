@@ -7,7 +7,7 @@ use ledger_model::Moment;
 use std::str::FromStr;
 
 /// Why a text is no moment. The first fault that applies, in this order, is reported.
-#[derive(Clone, Copy, Debug, PartialEq, Eq)]
+#[derive(Clone, Copy, PartialEq, Eq)]
 pub enum MomentFault {
     /// The text is no instant with its offset.
     NotATime,

@@ -8,7 +8,7 @@ use std::marker::Model;
 /// The place of a reading among all: by the slot of its transaction and its direction, then by its
 /// moment, then by the sequence number of its event, then by its place among the event's readings of
 /// that direction. Contracts see a key as its rank.
-#[derive(Clone, Copy, Debug, PartialEq, Eq)]
+#[derive(Clone, Copy, PartialEq, Eq)]
 pub struct MomentKey {
     joined: u128,
 }

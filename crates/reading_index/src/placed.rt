@@ -1,7 +1,7 @@
 use ledger_model::Reading;
 
 /// A reading, with the sequence number of its event and its place there.
-#[derive(Clone, Copy, Debug, PartialEq, Eq)]
+#[derive(Clone, Copy)]
 pub struct PlacedReading {
     /// The sequence number of its event, 0 to 2,147,483,647.
     pub number: u32,

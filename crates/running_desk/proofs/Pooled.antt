@@ -1,6 +1,6 @@
 -- A pass that was taken from a pool.
 use Rattle.std.{proofs.Common.{◌≡◌, ◌==◌, ℕ, ◌+◌, ◌<◌, Bool, true, List, Option, None, Some, length, get_or, slice_get, refl, sym, ap, subst, ◌∙◌}, specs.Prelude.IfSome, specs.List.{position, remove}, proofs.lemmas.Bool.eqb-true, proofs.lemmas.List.Quantifiers.position-Some, proofs.lemmas.Option.{get_or_from_slice_get, slice_get_read}}
-use Rattle.station_cell.specs.Cell.{Held}
+use Rattle.site_desk.specs.Cell.{Held}
 use Rattle.running_desk.specs.Pooled.{IsTaken, Pooled}
 
 -- the pass at the place that was found

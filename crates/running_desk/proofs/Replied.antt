@@ -7,8 +7,7 @@ use Rattle.ledger_model.specs.declared.figures.Figures as figures
 use Rattle.script_ledgers.specs.Script.{by_meaning, energy_line, export_line, listed, start}
 use Rattle.script_lines.{specs.declared.script_line.TxList.TxList, specs.Texts.{answer_text, ended_line}}
 use Rattle.site_book.specs.Book.{Known}
-use Rattle.site_desk.{specs.declared.roster.StationPlace.StationPlace, specs.Operator.{AreTotalsOfName, IsListingOfName}, specs.Roster.IsNamed, specs.Submit.{IsAnswered, Submitted}}
-use Rattle.station_cell.specs.Cell.{Held}
+use Rattle.site_desk.{specs.declared.roster.StationPlace.StationPlace, specs.Operator.{AreTotalsOfName, IsListingOfName}, specs.Roster.IsNamed, specs.Submit.{IsAnswered, Submitted}, specs.Cell.Held}
 use Rattle.station_ledger.specs.declared.listing.TxListing.{TxListing}
 use Rattle.station_link.specs.Answer.{Answers, AnswersMeaning, IsGivenAt}
 use Rattle.transaction_event.{specs.Message.{Meaning, Event, Ready, Silence, message}, specs.Reply.event_reply_bytes}

@@ -1,6 +1,6 @@
 -- A pool of passes.
 use Rattle.std.{specs.Prelude.{◌≡◌, ℕ, ◌+◌, List, [], ◌∷◌, ◌++◌, Option, None, Some, slice_get}, specs.List.remove, specs.declared.alloc.AllocError.AllocError, specs.declared.result.Result.Result, specs.declared.result.Result.TheVariants.{Ok, Err}}
-use Rattle.station_cell.specs.Cell.{Held}
+use Rattle.site_desk.specs.Cell.{Held}
 
 -- A pool: the passes in it, and how many more have room.
 pub record Pooled : Type 0 where

@@ -9,8 +9,7 @@ use Rattle.ocppj_frame.specs.Frame.{frame}
 use Rattle.script_ledgers.specs.Script.{commanded_to, energy_answer, energy_line, export_answer, export_line, list_answer, mark_line, sent_to, start, total_answer}
 use Rattle.script_lines.{specs.declared.script_line.TxList.TxList, specs.declared.script_line.LineFault.TheVariants.{BadLine, DeclaredLate, UnknownSite, UnknownStation}, specs.LineMeaning.{LineMeaning, nothing, fails, sets_limits, declares, sets_period, sets_order, sets_settle, tells, sends, commands, asks_energy, asks_export, asks_total, asks_board, lists, marks}, specs.Texts.{answer_text, ended_line, fault_line}}
 use Rattle.site_book.specs.Book.{Known}
-use Rattle.site_desk.{specs.declared.plan.SitePlan.SitePlan, specs.declared.roster.StationPlace.StationPlace, specs.Operator.AreBoardsAt, specs.Roster.IsNamed, specs.Submit.Submitted}
-use Rattle.station_cell.specs.Cell.{Held}
+use Rattle.site_desk.{specs.declared.plan.SitePlan.SitePlan, specs.declared.roster.StationPlace.StationPlace, specs.Operator.AreBoardsAt, specs.Roster.IsNamed, specs.Submit.Submitted, specs.Cell.Held}
 use Rattle.station_link.specs.Answer.{Answers, IsGivenAt}
 use Rattle.transaction_event.{specs.Message.{Meaning, Event, Ready, Silence, message}, specs.MessageMeaning.IsMemoryReply, specs.Reply.event_reply_bytes}
 

@@ -6,7 +6,7 @@ use std::alloc::{AllocError, AllocFailed};
 use thiserror::Error;
 
 /// Why a server or a simulation ended without its boards.
-#[derive(Clone, Copy, Debug, PartialEq, Eq, Error)]
+#[derive(Clone, Copy, Debug, Error)]
 pub enum ServiceFault {
     /// The server can't listen on this port, 0 if the system was to choose one; with the system's error number, if
     /// there is one.

@@ -14,7 +14,7 @@ use std::io::BufRead;
 use std::sync::Wait;
 
 /// What came from an operator.
-#[derive(Clone, Copy, Debug, PartialEq, Eq)]
+#[derive(Clone, Copy)]
 pub enum Came {
     /// A line.
     Line,

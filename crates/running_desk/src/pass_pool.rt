@@ -2,7 +2,7 @@
 ghost use Rattle.std.{specs.Prelude.{◌≡◌, ◌==◌}, specs.List.position};
 ghost use Rattle.running_desk.specs.Pooled.{IsLaid, IsReserved, IsTaken};
 
-use station_cell::Pass;
+use site_desk::Pass;
 use std::alloc::AllocError;
 use std::marker::Model;
 

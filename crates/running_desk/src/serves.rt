@@ -3,8 +3,7 @@ ghost use Rattle.std.specs.Prelude.{◌≡◌, Some, slice_get};
 
 use ledger_model::{Answer, Command, Figures, Name};
 use site_book::Told;
-use site_desk::{BoardFault, Desk, HasCell};
-use station_cell::Pass;
+use site_desk::{BoardFault, Desk, HasCell, Pass};
 use station_ledger::StationBoard;
 use station_link::Delivers;
 use std::alloc::Global;

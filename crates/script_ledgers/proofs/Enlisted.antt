@@ -1,6 +1,6 @@
 -- Cells that give their first passes, one after the other.
 use Rattle.std.{proofs.Common.{◌≡◌, ℕ, zero, suc, ◌+◌, ◌<◌, ◌≤◌, List, [], ◌∷◌, ◌++◌, Result, Ok, All, length, map, take, drop, set, get_or, refl, subst, ap, sym, ◌∙◌, append-nil, arith}, specs.Prelude.{IfOk, OnOk}, proofs.lemmas.List.{map-append, take_all, drop_all, take_more}}
-use Rattle.station_cell.specs.Cell.{Cell, Held, new_pass}
+use Rattle.site_desk.specs.Cell.{Cell, Held, new_pass}
 
 module _ {X : Type 0} (f : X → X) where
   -- the first i elements are changed

@@ -2,8 +2,7 @@
 use Rattle.std.{proofs.Common.{◌≡◌, ℕ, ◌<◌, true, false, List, [], ◌∷◌, Option, None, Some, length, refl, subst, ap, sym, ◌∙◌, bytes_eq, arith}, specs.Prelude.{IfSome, slice_get}, specs.List.position, proofs.lemmas.Option.slice_get_within}
 use Rattle.ledger_model.{specs.declared.answer.Answer.Answer, specs.declared.command.Command.Command, specs.declared.command.Command.TheVariants.Deliver, specs.World.{Station, world_after}}
 use Rattle.site_book.specs.Book.{Book}
-use Rattle.site_desk.specs.declared.plan.StationPlan.{StationPlan}
-use Rattle.station_cell.specs.Cell.{Cell, Held}
+use Rattle.site_desk.{specs.declared.plan.StationPlan.StationPlan, specs.Cell.{Cell, Held}}
 use Rattle.transaction_event.{specs.declared.message.Message.Message, specs.Message.message, specs.MessageMeaning.IsMeaningOf}
 use Rattle.transaction_event.specs.declared.message.Message.TheVariants as read
 use Rattle.board_report.proofs.SiteBoards.{stands}

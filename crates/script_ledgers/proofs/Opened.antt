@@ -2,8 +2,7 @@
 use Rattle.std.{proofs.Common.{◌≡◌, ℕ, zero, suc, List, [], ◌∷◌, Some, All, length, map, refl, subst, ap, sym, ◌∙◌, arith}, specs.Prelude.slice_get, proofs.lemmas.List.length-map, proofs.lemmas.List.Sums.sum_by-cons, proofs.lemmas.Option.{get_or_from_slice_get, slice_get_within}}
 use Rattle.ledger_model.specs.Content.{empty_content}
 use Rattle.site_book.specs.Book.{Book}
-use Rattle.site_desk.{specs.declared.plan.SitePlan.SitePlan, specs.declared.plan.StationPlan.StationPlan, specs.Parts.{AreApart, AreNewBooks, AreNewCells, AreTied, limits_at, new_book, row_at}, specs.Plan.{order_at, period_at}}
-use Rattle.station_cell.{specs.Cell.{Cell, Held, Knows, new_cell, new_pass}, specs.Settle.{Holds, Tied}}
+use Rattle.site_desk.{specs.declared.plan.SitePlan.SitePlan, specs.declared.plan.StationPlan.StationPlan, specs.Parts.{AreApart, AreNewBooks, AreNewCells, AreTied, limits_at, new_book, row_at}, specs.Plan.{order_at, period_at}, specs.Cell.{Cell, Held, Knows, new_cell, new_pass}, specs.Settle.{Holds, Tied}}
 use Rattle.board_report.proofs.SiteBoards.{some_same, stands}
 use Rattle.script_ledgers.{specs.Drafts.{IsPlan, planned_world, site_name}, specs.Running.{IsPlaced, IsRunning, IsShown, filled, posts_in}, specs.Script.new_station, proofs.Enlisted.first_given}
 

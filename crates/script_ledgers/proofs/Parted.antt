@@ -2,8 +2,7 @@
 use Rattle.std.{proofs.Common.{◌≡◌, true, cond, not, leb, ltb, List, Some, None, map, length, ap, ◌∙◌, arith}, specs.Prelude.sum_by, specs.List.list_all, proofs.lemmas.Bool.and_from, proofs.lemmas.Bool.Decides.nat_tests, proofs.lemmas.List.Sums.list_all-from_AllPass}
 use Rattle.ledger_model.specs.Ranges.{most_plan_readings}
 use Rattle.site_book.specs.Book.{Book}
-use Rattle.site_desk.{specs.declared.fault.DeskFault.TheVariants.{PlanLimit, StationTwice}, specs.declared.plan.SitePlan.SitePlan, specs.declared.plan.StationPlan.StationPlan, specs.Plan.{has_twice, is_within_limits, most_viewers, plan_fault}, specs.Roster.AreCellsOf}
-use Rattle.station_cell.specs.Cell.{Cell, Held}
+use Rattle.site_desk.{specs.declared.fault.DeskFault.TheVariants.{PlanLimit, StationTwice}, specs.declared.plan.SitePlan.SitePlan, specs.declared.plan.StationPlan.StationPlan, specs.Plan.{has_twice, is_within_limits, most_viewers, plan_fault}, specs.Roster.AreCellsOf, specs.Cell.{Cell, Held}}
 use Rattle.script_ledgers.{specs.Drafts.IsPlan, specs.Running.IsRunning}
 
 -- a plan of declarations has no fault

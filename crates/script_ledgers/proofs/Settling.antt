@@ -2,8 +2,7 @@
 use Rattle.std.{proofs.Common.{◌≡◌, ◌≢◌, ℕ, zero, suc, ◌<◌, ◌≤◌, true, false, cond, List, [], ◌∷◌, Some, length, map, set, refl, subst, ap, sym, ◌∙◌, bytes_eq, arith, ⊎_elim}, specs.Prelude.{IfSome, slice_get}, specs.List.list_any, proofs.lemmas.List.length-set, proofs.lemmas.List.Sums.sum_by-set, proofs.lemmas.Bool.cases_eq, proofs.lemmas.Option.{get_or_from_slice_get, slice_get_within}, proofs.lemmas.Slice.Eq.bytes_eq-Decides}
 use Rattle.ledger_model.{specs.declared.answer.Answer.Answer, specs.declared.command.Command.Command, specs.Content.Content, specs.Step.{answer, step}, specs.World.{Station, World, station_after, world_after}}
 use Rattle.site_book.{specs.Book.Book, proofs.Named.{get_else, get_here}}
-use Rattle.site_desk.{specs.declared.plan.SitePlan.SitePlan, specs.declared.plan.StationPlan.StationPlan, specs.Parts.{AreTied, limits_at}, specs.Plan.has_twice, proofs.Ties.{apart_step, tied_step}}
-use Rattle.station_cell.{specs.Cell.{Cell, Held, Knows}, specs.Settle.{Holds, Tied, cell_after, posts_after}}
+use Rattle.site_desk.{specs.declared.plan.SitePlan.SitePlan, specs.declared.plan.StationPlan.StationPlan, specs.Parts.{AreTied, limits_at}, specs.Plan.has_twice, proofs.Ties.{apart_step, tied_step}, specs.Cell.{Cell, Held, Knows}, specs.Settle.{Holds, Tied, cell_after, posts_after}}
 use Rattle.board_report.proofs.SiteBoards.{some_same, stands}
 use Rattle.script_ledgers.{specs.Drafts.{Drafted, planned_world, site_name}, specs.Running.{IsPlaced, IsRunning, IsShown, Settles, filled, posts_in, running}, specs.Script.new_station, proofs.Places.{AreAlike, differ_back, neither}}
 

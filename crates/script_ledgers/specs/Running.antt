@@ -2,8 +2,7 @@
 use Rattle.std.specs.Prelude.{◌≡◌, ℕ, true, List, [], ◌∷◌, length, map, sum_by, Some, IfSome, slice_get}
 use Rattle.ledger_model.{specs.declared.answer.Answer.Answer, specs.declared.command.Command.Command, specs.Step.answer, specs.World.{Station, World, world_after}}
 use Rattle.site_book.specs.Book.{Book}
-use Rattle.site_desk.{specs.declared.plan.SitePlan.SitePlan, specs.declared.plan.StationPlan.StationPlan, specs.Parts.{AreApart, limits_at, row_at}, specs.Plan.{order_at, period_at}}
-use Rattle.station_cell.{specs.Cell.{Cell, Held, Knows}, specs.Settle.{Holds, Tied}}
+use Rattle.site_desk.{specs.declared.plan.SitePlan.SitePlan, specs.declared.plan.StationPlan.StationPlan, specs.Parts.{AreApart, limits_at, row_at}, specs.Plan.{order_at, period_at}, specs.Cell.{Cell, Held, Knows}, specs.Settle.{Holds, Tied}}
 use Rattle.script_ledgers.{specs.Drafts.{Drafted, IsPlan, planned_world}, specs.Script.Script}
 
 -- The stations, with the contents of their cells.

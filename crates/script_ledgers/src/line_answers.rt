@@ -15,7 +15,7 @@ use script_lines::{
     LineFault, LineReader, ScriptLine, TxList, put_answer, put_fault, put_line, read_line,
 };
 use site_book::Naming;
-use station_cell::settle;
+use site_desk::settle;
 use std::alloc::AllocError;
 use std::io;
 use std::io::BufRead;

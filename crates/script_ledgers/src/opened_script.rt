@@ -1,7 +1,6 @@
 ghost use Rattle.std.specs.Prelude.{◌≡◌, ℕ, ◌<◌, ◌∷◌, [], All, length, map, true, OnOk, IfOk, None};
 ghost use Rattle.site_book.specs.Tables.{HasTable, NamedBy};
-ghost use Rattle.station_cell.specs.Cell.{Cell, new_pass};
-ghost use Rattle.site_desk.{specs.Plan.plan_fault, specs.Roster.AreCellsOf};
+ghost use Rattle.site_desk.{specs.Cell.{Cell, new_pass}, specs.Plan.plan_fault, specs.Roster.AreCellsOf};
 ghost use Rattle.script_ledgers.{specs.Drafts.planned, specs.Running.{AreTheirPasses, IsRunning, posts_in, running}};
 
 use crate::draft::Draft;
@@ -9,8 +8,7 @@ use crate::hints::StationHints;
 use arrayvec::ArrayString;
 use message_ahead::Lookahead;
 use site_book::{Naming, SiteBook, Tables};
-use site_desk::Parts;
-use station_cell::{Pass, StationCell, enlist_cell};
+use site_desk::{Parts, Pass, StationCell, enlist_cell};
 use std::alloc::{AllocError, Global};
 use std::thread::Threads;
 

@@ -8,7 +8,7 @@ use crate::draft::Draft;
 use crate::opened_script::OpenedScript;
 use script_lines::{LineReader, ScriptLine, read_line};
 use site_book::{Naming, Tables};
-use station_cell::{Pass, StationCell};
+use site_desk::{Pass, StationCell};
 use std::alloc::AllocError;
 use std::io;
 use std::io::BufRead;

@@ -13,7 +13,7 @@ use std::io::{BufRead, Write};
 pub const MAX_LINE_BYTES: usize = 262_400;
 
 /// What ended a line.
-#[derive(Clone, Copy, Debug, PartialEq, Eq)]
+#[derive(Clone, Copy)]
 pub enum LineEnd {
     /// A line feed.
     Feed,

@@ -7,7 +7,7 @@ use reading_decimal::moment_of;
 
 /// Why a line of a script changes no plan, content or moment. The first fault that applies, in this
 /// order, is reported.
-#[derive(Clone, Copy, Debug, PartialEq, Eq)]
+#[derive(Clone, Copy)]
 pub enum LineFault {
     /// The line has more than 262,400 bytes before its line feed.
     LineTooLong,
@@ -48,7 +48,7 @@ impl LineFault {
 }
 
 /// What an operator does to an event.
-#[derive(Clone, Copy, Debug, PartialEq, Eq)]
+#[derive(Clone, Copy)]
 pub enum Operation {
     /// Leaves it out of all totals, but keeps it stored.
     Void,
@@ -72,7 +72,7 @@ impl Operation {
 }
 
 /// What a list of a transaction shows.
-#[derive(Clone, Copy, Debug, PartialEq, Eq)]
+#[derive(Clone, Copy)]
 pub enum TxList {
     /// Its events, live and voided.
     Events,

@@ -5,7 +5,7 @@ ghost use Rattle.script_lines.specs.Writing.{WritesFront};
 use std::io::Write;
 
 /// A write failed, or took no byte.
-#[derive(Clone, Copy, Debug, PartialEq, Eq)]
+#[derive(Clone, Copy)]
 pub struct WriteStopped;
 
 /// Writes all of these bytes. It ends at a write that fails or takes no byte; a front of the bytes was

@@ -1,8 +1,7 @@
 -- What a loop of comparisons shows of all elements.
 use Rattle.std.{proofs.Common.{◌≡◌, ◌≢◌, ℕ, ◌+◌, ◌-◌, ◌<◌, ◌≤◌, true, false, cond, eqb, List, ◌∷◌, length, drop, map, get_or, Some, None, refl, ap, sym, ◌∙◌, subst, ⊎_elim, arith}, specs.Prelude.{Option, IfSome, filter, slice_get}, proofs.Math.ListN.get_or-map, proofs.lemmas.Bool.{cases_eq, eq-eqb}, proofs.lemmas.List.drop_more, proofs.lemmas.Option.{slice_get_within, get_or_from_slice_get}}
 use Rattle.ledger_model.{specs.declared.figures.Figures.Figures, specs.declared.order.Order.Order, specs.Board.{figures_by, plus_figures, sum_of_figures}, specs.Content.{Content, entries}}
-use Rattle.station_cell.specs.Cell.{Cell}
-use Rattle.site_desk.specs.Close.{figures_at, figures_with}
+use Rattle.site_desk.{specs.Cell.Cell, specs.Close.{figures_at, figures_with}}
 
 module _ {X : Type 0} (P : ℕ → X → Type 0) where
   -- one element more

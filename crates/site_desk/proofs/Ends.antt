@@ -1,8 +1,7 @@
 -- What a desk keeps, and what is known once it is closed.
 use Rattle.std.{proofs.Common.{◌≡◌, ℕ, zero, suc, ◌<◌, ◌≤◌, Bool, true, false, List, [], ◌∷◌, length, set, get_or, Some, refl, ap, sym, ◌∙◌, arith}, specs.Prelude.{slice_get, None}, proofs.lemmas.Option.{slice_get_within, slice_get_read, get_or_from_slice_get}}
 use Rattle.site_book.specs.Book.{Book}
-use Rattle.site_desk.{specs.declared.plan.SitePlan.SitePlan, specs.declared.plan.StationPlan.StationPlan, specs.declared.roster.StationPlace.StationPlace, specs.Parts.{AreTied, IsTied}, specs.Plan.plan_fault, specs.Roster.{AreNewPlaces, IsDesk, new_place}, proofs.NewParts.planned_sites}
-use Rattle.station_cell.specs.Cell.{Cell}
+use Rattle.site_desk.{specs.declared.plan.SitePlan.SitePlan, specs.declared.plan.StationPlan.StationPlan, specs.declared.roster.StationPlace.StationPlace, specs.Parts.{AreTied, IsTied}, specs.Plan.plan_fault, specs.Roster.{AreNewPlaces, IsDesk, new_place}, proofs.NewParts.planned_sites, specs.Cell.Cell}
 
 -- an answer that is not the one for an unknown name
 pub known_not : {A : Type 0} (r u : A) (b : Bool) → (r ≡ u → ⊥) → true ≡ b → (r ≡ u → b ≡ false) × (b ≡ false → r ≡ u)

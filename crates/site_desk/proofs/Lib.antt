@@ -1,3 +1,5 @@
+pub mod Counts
+pub mod Settled
 pub mod Twice
 pub mod Declared
 pub mod Rows

@@ -2,8 +2,7 @@
 use Rattle.std.{proofs.Common.{◌≡◌, ◌≢◌, ℕ, zero, suc, ◌+◌, ◌<◌, ◌≤◌, Bool, true, false, not, cond, eqb, leb, ltb, ◌&&◌, List, [], ◌∷◌, ◌++◌, length, map, take, drop, replicate, get_or, Some, None, refl, ap, sym, ◌∙◌, subst, ⊎_elim, inl, inr, ◌⊎◌, arith, append_assoc}, specs.Prelude.{filter, slice_get, sum_by, count_by, Option, unwrap_or}, specs.List.list_all, proofs.lemmas.Bool.{cases_eq, leb-true, ltb-true}, proofs.lemmas.List.{take_more, drop_more, length_push, take-append-le, take_all}, proofs.lemmas.List.Sums.sum_by-cons}
 use Rattle.ledger_model.{specs.Ranges.most_plan_readings, specs.Limits.Bounds}
 use Rattle.site_book.{specs.Book.{ArePlanned, Book, Known, known}, proofs.Named.{get_front, get_last}}
-use Rattle.site_desk.{specs.declared.plan.SitePlan.SitePlan, specs.declared.plan.StationPlan.StationPlan, specs.declared.fault.DeskFault.DeskFault, specs.declared.fault.DeskFault.TheVariants.{PlanLimit, StationTwice}, specs.Plan.{has_twice, is_within_limits, order_at, period_at, plan_fault, most_viewers}, specs.Parts.{AreNewBooks, AreNewCells, limits_at, new_book, new_viewers, row_at, viewed_by}}
-use Rattle.station_cell.specs.Cell.{Cell, new_cell}
+use Rattle.site_desk.{specs.declared.plan.SitePlan.SitePlan, specs.declared.plan.StationPlan.StationPlan, specs.declared.fault.DeskFault.DeskFault, specs.declared.fault.DeskFault.TheVariants.{PlanLimit, StationTwice}, specs.Plan.{has_twice, is_within_limits, order_at, period_at, plan_fault, most_viewers}, specs.Parts.{AreNewBooks, AreNewCells, limits_at, new_book, new_viewers, row_at, viewed_by}, specs.Cell.{Cell, new_cell}}
 
 -- an element of a list with one more is one of the list's, or the last
 get_push : {A : Type 0} (xs : List A) (y x : A) (k : ℕ) → slice_get (xs ++ y ∷ []) k ≡ Some x → ((slice_get xs k ≡ Some x) × (k < length xs)) ⊎ ((k ≡ length xs) × (y ≡ x))

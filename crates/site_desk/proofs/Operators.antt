@@ -3,8 +3,7 @@ use Rattle.std.{proofs.Common.{◌≡◌, ◌≢◌, ℕ, zero, suc, ◌+◌, �
 use Rattle.ledger_model.{specs.declared.figures.Figures.Figures, specs.Board.{Board, board_by}, specs.Content.{Content, entries}, specs.Limits.Bounds, specs.Periods.Periods, specs.Step.Reached, specs.declared.order.Order.Order}
 use Rattle.energy_flow.specs.Flow.{Energy}
 use Rattle.station_ledger.{specs.Listing.listing_by, specs.declared.listing.TxListing.TxListing}
-use Rattle.site_desk.{specs.declared.roster.StationPlace.StationPlace, specs.Operator.{AreBoardsAt, AreBoardsOf, AreNotedBoards, AreTotalsOfName, AreTotalsWithin, IsAmong, IsBoardAt, IsBoardOfCell, IsListingOfName, IsListingWithin, IsNotedBoard, before_at}, specs.Roster.{IsNamed, StandsAt}}
-use Rattle.station_cell.specs.Cell.{Cell}
+use Rattle.site_desk.{specs.declared.roster.StationPlace.StationPlace, specs.Operator.{AreBoardsAt, AreBoardsOf, AreNotedBoards, AreTotalsOfName, AreTotalsWithin, IsAmong, IsBoardAt, IsBoardOfCell, IsListingOfName, IsListingWithin, IsNotedBoard, before_at}, specs.Roster.{IsNamed, StandsAt}, specs.Cell.Cell}
 
 -- one board more, of one place more
 boards_push : (places : List StationPlace) (p : StationPlace) (boards : List (List ℕ × Board)) (b : List ℕ × Board)

@@ -2,8 +2,7 @@
 use Rattle.std.{proofs.Common.{◌≡◌, ◌≢◌, ℕ, zero, suc, ◌+◌, ◌<◌, ◌≤◌, List, [], ◌∷◌, ◌++◌, length, set, Some, None, refl, ap, sym, ◌∙◌, subst, ⊎_elim, arith}, specs.Prelude.slice_get, proofs.lemmas.Bool.cases_eq, proofs.lemmas.List.length_push, proofs.lemmas.Option.slice_get_within}
 use Rattle.ledger_model.{specs.declared.answer.Answer.TheVariants.Accepted, specs.Board.figures_by, specs.Content.entries, specs.Posts.row_after, proofs.PostLemmas.row-push_same}
 use Rattle.site_book.{specs.Book.Book, proofs.Named.{get_else, get_here}}
-use Rattle.station_cell.{specs.Cell.Cell, specs.Settle.Tied, proofs.Settled.tied_beside}
-use Rattle.site_desk.{specs.declared.plan.SitePlan.SitePlan, specs.declared.plan.StationPlan.StationPlan, specs.Parts.{AreApart, AreBooksOf, AreHeld, AreNewBooks, AreRowsKept, HaveFewPosts, IsHeld, IsTied, limits_at, new_book, row_at}, specs.Plan.plan_fault, specs.Roster.{AreCellsOf, StandsAt, new_place}, proofs.NewParts.planned_sites, proofs.Ties.{limits_row, rows_apart}}
+use Rattle.site_desk.{specs.Cell.Cell, specs.Settle.Tied, proofs.Settled.tied_beside, specs.declared.plan.SitePlan.SitePlan, specs.declared.plan.StationPlan.StationPlan, specs.Parts.{AreApart, AreBooksOf, AreHeld, AreNewBooks, AreRowsKept, HaveFewPosts, IsHeld, IsTied, limits_at, new_book, row_at}, specs.Plan.plan_fault, specs.Roster.{AreCellsOf, StandsAt, new_place}, proofs.NewParts.planned_sites, proofs.Ties.{limits_row, rows_apart}}
 
 pub some_book : (x y : Book) → Some x ≡ Some y → x ≡ y
 some_book x y h = cc

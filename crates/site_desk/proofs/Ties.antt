@@ -2,8 +2,7 @@
 use Rattle.std.{proofs.Common.{◌≡◌, ◌≢◌, ℕ, zero, suc, ◌+◌, ◌<◌, Bool, true, false, cond, eqb, List, [], ◌∷◌, length, map, take, set, Some, None, refl, ap, sym, ◌∙◌, subst, ⊎_elim, arith}, specs.Prelude.{filter, slice_get}, proofs.lemmas.Bool.{cases_eq, eq-eqb}, proofs.lemmas.List.Sums.sum_by-cons, proofs.lemmas.Option.slice_get_within}
 use Rattle.ledger_model.{specs.declared.answer.Answer.Answer, specs.declared.command.Command.Command, specs.Board.figures_by, specs.Limits.default_limits, specs.Step.answer, proofs.ListedRuns.entries_from_empty}
 use Rattle.site_book.{specs.Book.Book, proofs.Named.{get_else, get_here}}
-use Rattle.site_desk.{specs.declared.plan.SitePlan.SitePlan, specs.declared.plan.StationPlan.StationPlan, specs.Parts.{AreApart, AreNewBooks, AreNewCells, AreTied, IsTied, limits_at, new_book, row_at}, specs.Plan.{order_at, period_at, plan_fault}, proofs.NewParts.planned_sites}
-use Rattle.station_cell.{specs.Cell.{Cell, Held, new_cell}, specs.Settle.{Tied, cell_after, posts_after}, proofs.Settled.{tied_after, tied_beside}}
+use Rattle.site_desk.{specs.declared.plan.SitePlan.SitePlan, specs.declared.plan.StationPlan.StationPlan, specs.Parts.{AreApart, AreNewBooks, AreNewCells, AreTied, IsTied, limits_at, new_book, row_at}, specs.Plan.{order_at, period_at, plan_fault}, proofs.NewParts.planned_sites, specs.Cell.{Cell, Held, new_cell}, specs.Settle.{Tied, cell_after, posts_after}, proofs.Settled.{tied_after, tied_beside}}
 
 -- the row of a later station
 row_later : (x : StationPlan) (xs : List StationPlan) (site k : ℕ) → row_at (x ∷ xs) site (suc k) ≡ cond (eqb x.site site) 1 0 + row_at xs site k

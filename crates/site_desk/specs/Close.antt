@@ -1,9 +1,8 @@
 use Rattle.std.{specs.Prelude.{◌≡◌, ℕ, ◌<◌, ◌==◌, if◌then◌else◌, List, filter, map, length, count_by, sum_by, Some, slice_get, refl}, specs.Coded.{Coded, code_by, coded×, coded_list, coded_ℕ}}
 use Rattle.ledger_model.{specs.declared.figures.Figures.Figures, specs.Figures.{figure_list, figures_from}, specs.Board.{figures_by, plus_figures, sum_of_figures}, specs.Content.entries, specs.Limits.Bounds, specs.Posts.{Post, totals_after}, specs.Step.Reached}
 use Rattle.site_book.{specs.Book.{Book, Known}, specs.Prefix.IsPrefix}
-use Rattle.site_desk.{specs.declared.roster.StationPlace.StationPlace, specs.Parts.IsTied, specs.Roster.StandsAt}
+use Rattle.site_desk.{specs.declared.roster.StationPlace.StationPlace, specs.Parts.IsTied, specs.Roster.StandsAt, specs.Cell.{Cell, Held, cell_code}}
 use Rattle.station_ledger.specs.Ledger.{bounds_code}
-use Rattle.station_cell.specs.Cell.{Cell, Held, cell_code}
 
 -- A closed desk: the cells of all stations and the books of all sites, in the plan's order, and the passes that were
 -- given out.

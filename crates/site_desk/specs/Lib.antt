@@ -1,3 +1,5 @@
+pub mod Cell
+pub mod Settle
 pub mod Plan
 pub mod Parts
 pub mod Roster

@@ -2,8 +2,7 @@
 use Rattle.std.specs.Prelude.{◌≡◌, ℕ, ◌==◌, ⊤, List, [], ◌∷◌, count_by, filter, take, Some, slice_get}
 use Rattle.energy_flow.specs.Flow.{Energy}
 use Rattle.ledger_model.{specs.declared.figures.Figures.Figures, specs.declared.order.Order.Order, specs.Board.{Board, board_by, figures_by}, specs.declared.reading.Direction.TheVariants.{Import, Export}, specs.Energy.energy_by, specs.Content.{Content, entries}, specs.Figures.AreWithin, specs.Limits.Bounds, specs.Periods.Periods, specs.Step.Reached}
-use Rattle.site_desk.{specs.declared.roster.StationPlace.StationPlace, specs.Roster.{IsNamed, StandsAt}, specs.Submit.IsBoardWithin}
-use Rattle.station_cell.specs.Cell.{Cell}
+use Rattle.site_desk.{specs.declared.roster.StationPlace.StationPlace, specs.Roster.{IsNamed, StandsAt}, specs.Submit.IsBoardWithin, specs.Cell.Cell}
 use Rattle.station_ledger.{specs.Listing.listing_by, specs.declared.listing.TxListing.TxListing}
 
 -- Some content that accepted commands reach under these limits has these figures and these imported

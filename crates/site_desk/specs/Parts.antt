@@ -1,8 +1,7 @@
 use Rattle.std.specs.Prelude.{◌≡◌, ℕ, suc, ◌<◌, ◌≤◌, ◌==◌, List, [], ◌∷◌, ◌++◌, filter, map, length, replicate, count_by, take, Option, None, Some, slice_get}
 use Rattle.ledger_model.specs.Limits.{Bounds}
 use Rattle.site_book.specs.Book.{Book, Known, known}
-use Rattle.site_desk.{specs.declared.plan.SitePlan.SitePlan, specs.declared.plan.StationPlan.StationPlan, specs.Plan.{order_at, period_at}}
-use Rattle.station_cell.{specs.Cell.{Cell, new_cell}, specs.Settle.{Holds, Tied}}
+use Rattle.site_desk.{specs.declared.plan.SitePlan.SitePlan, specs.declared.plan.StationPlan.StationPlan, specs.Plan.{order_at, period_at}, specs.Cell.{Cell, new_cell}, specs.Settle.{Holds, Tied}}
 
 -- The row of a station of this number at a site: how many stations of the site come before it.
 abbrev pub row_at : List StationPlan → ℕ → ℕ → ℕ

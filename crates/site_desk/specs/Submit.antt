@@ -1,8 +1,7 @@
 use Rattle.std.specs.Prelude.{◌≡◌, ℕ, suc, ◌+◌, ◌<◌, ◌≤◌, ◌^◌, List, [], ◌∷◌, ◌++◌, length, sum, Option, None, Some}
 use Rattle.ledger_model.{specs.Periods.Periods, specs.declared.answer.Answer.Answer, specs.declared.answer.Answer.TheVariants.{Accepted, Repeat, Refused}, specs.declared.answer.Refusal.TheVariants.{ConflictingEvent, TooManyTransactions, EventsFull, ReadingsFull, NoSuchEvent, AlreadyVoided, NotVoided, ChangesExhausted}, specs.declared.command.Command.Command, specs.declared.order.Order.Order, specs.Board.{Board, board_by, figures_by}, specs.Content.{Content, entries}, specs.Limits.Bounds, specs.Posts.{Post, row_after}, specs.Step.{Reached, answer, step}}
 use Rattle.site_book.specs.Book.{Book, Known, known}
-use Rattle.site_desk.{specs.declared.roster.StationPlace.StationPlace, specs.Roster.{IsNamed, StandsAt}}
-use Rattle.station_cell.{specs.Cell.{Cell, Held, IsInService, Knows}, specs.Settle.{Holds, Tied}}
+use Rattle.site_desk.{specs.declared.roster.StationPlace.StationPlace, specs.Roster.{IsNamed, StandsAt}, specs.Cell.{Cell, Held, IsInService, Knows}, specs.Settle.{Holds, Tied}}
 use Rattle.station_ledger.specs.Spent.{most_spent}
 
 -- The command is accepted as change n at this content. The station's row showed the figures of this content, and those

@@ -2,13 +2,15 @@
 ghost use Rattle.std.specs.Prelude.{◌≡◌, ◌≢◌, IsTrue, IfNone, IfSome, length, map};
 ghost use Rattle.site_desk.{specs.Close.{AreAllPasses, AreSummed, AreViewed, AreWhole, IsClosable, IsCounted, IsPlaced, IsSummed, IsWhole, changes_of, figures_at, figures_with, passes_of}, specs.Parts.IsTied, specs.declared.fault.CloseFault.CloseFault};
 
+use crate::cell::StationCell;
 use crate::fault::CloseFault;
 use crate::has_cell::HasCell;
+use crate::pass::Pass;
 use crate::roster::StationPlace;
+use crate::steps::{are_same, tied};
 use crate::submit::stands_at;
 use ledger_model::Figures;
 use site_book::{Naming, SiteBook, Viewer};
-use station_cell::{Pass, StationCell, are_same, tied};
 
 // How many of the passes belong to the station.
 fn passes_of(passes: &[Pass], number: usize) -> usize

@@ -1,14 +1,14 @@
 ghost use Rattle.std.specs.Prelude.{◌≡◌, ◌<◌, length, Some, slice_get};
 ghost use Rattle.ledger_model.{specs.Board.figures_by, specs.Content.entries, specs.Posts.totals_after};
 ghost use Rattle.site_book.specs.Book.{Book};
-ghost use Rattle.station_cell.specs.Cell.{Cell};
-ghost use Rattle.site_desk.specs.Parts.{AreTied};
+ghost use Rattle.site_desk.{specs.Cell.Cell, specs.Parts.AreTied};
 
+use crate::cell::StationCell;
 use crate::desk::Desk;
 use crate::fault::CloseFault;
+use crate::pass::Pass;
 use ledger_model::{Figures, Listed};
 use site_book::{Naming, SiteBook, Viewer};
-use station_cell::{Pass, StationCell};
 use station_ledger::StationLedger;
 use std::marker::Model;
 

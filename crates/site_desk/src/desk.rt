@@ -3,6 +3,7 @@ ghost use Rattle.ledger_model.{specs.declared.answer.Answer.Answer, specs.declar
 ghost use Rattle.site_book.specs.Tables.{HasTable, NamedBy};
 ghost use Rattle.site_desk.{specs.declared.fault.BoardFault.BoardFault, specs.declared.fault.CloseFault.CloseFault, specs.declared.fault.DeskFault.DeskFault, specs.declared.fault.EnlistFault.EnlistFault, specs.declared.roster.StationPlace.StationPlace, specs.Close.{IsClosable, Saw}, specs.Parts.{AreTied, new_viewers}, specs.Plan.plan_fault, specs.Roster.{AreNewPlaces, IsNamed}, specs.Operator.{AreBoardsAt, AreNotedBoards, AreTotalsOfName, IsListingOfName}, specs.Submit.{IsBoardOfName, IsUnchanged, Submitted}};
 
+use crate::cell::StationCell;
 use crate::checks::fault_of;
 use crate::closed::{CloseRefused, Closed};
 use crate::fault::{BoardFault, DeskFault, EnlistFault};
@@ -14,6 +15,7 @@ use crate::operator::{
     hold_stations, listing_of, noted_boards_of, site_boards_of, sum_of, totals_of,
 };
 use crate::parts::Parts;
+use crate::pass::Pass;
 use crate::plan::Plan;
 use crate::roster::{Located, StationPlace, number_of, open_places};
 use crate::settles::{AtCell, Settles};
@@ -21,7 +23,6 @@ use crate::submit::{board_of, stands_at};
 use energy_flow::Flow;
 use ledger_model::{Answer, Command, Figures, Listed, Name, Refusal, TxId};
 use site_book::{Naming, SiteBook, Tables, Told, Viewer};
-use station_cell::{Pass, StationCell};
 use station_ledger::{StationBoard, TxListing};
 use std::alloc::{AllocError, Global};
 use std::marker::Model;

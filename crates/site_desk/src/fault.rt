@@ -1,5 +1,5 @@
 /// Why a plan is not opened. The first fault that applies is reported.
-#[derive(Clone, Copy, Debug, PartialEq, Eq)]
+#[derive(Clone, Copy, Debug)]
 pub enum DeskFault {
     /// The stations may keep more than 1,048,576 readings in all, a site has more than 64 viewers, a
     /// station names a site that is not there, or two sites have the same name.
@@ -11,7 +11,7 @@ pub enum DeskFault {
 }
 
 /// Why no pass is given out.
-#[derive(Clone, Copy, Debug, PartialEq, Eq)]
+#[derive(Clone, Copy, Debug)]
 pub enum EnlistFault {
     /// No station of the desk has this name.
     UnknownStation,
@@ -21,7 +21,7 @@ pub enum EnlistFault {
 }
 
 /// Why there is no board.
-#[derive(Clone, Copy, Debug, PartialEq, Eq)]
+#[derive(Clone, Copy, Debug)]
 pub enum BoardFault {
     /// No station of the desk has this name.
     UnknownStation,
@@ -33,7 +33,7 @@ pub enum BoardFault {
 }
 
 /// Why a desk is not closed. The first fault that applies is reported.
-#[derive(Clone, Copy, Debug, PartialEq, Eq)]
+#[derive(Clone, Copy, Debug)]
 pub enum CloseFault {
     /// A pass that was given out is missing.
     PassMissing,
@@ -42,3 +42,7 @@ pub enum CloseFault {
     /// The values behind the locks don't fit together: a count, a place, a row or a total differs.
     Torn,
 }
+
+/// A station gave out as many passes as it may: 65,536.
+#[derive(Clone, Copy)]
+pub struct TooManyPasses;

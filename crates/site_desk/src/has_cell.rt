@@ -1,13 +1,15 @@
 ghost use Rattle.std.specs.Prelude.{◌≡◌, IfOk, length};
-ghost use Rattle.station_cell.specs.Cell.{new_pass};
+ghost use Rattle.site_desk.specs.Cell.{new_pass};
 
-use station_cell::{Pass, StationCell, TooManyPasses, enlist_cell};
+use crate::cell::{StationCell, enlist_cell};
+use crate::fault::TooManyPasses;
+use crate::pass::Pass;
 use std::thread::Threads;
 
 /// What a desk keeps behind a station's lock: the station's cell, by itself or with what belongs to
 /// it.
 pub trait HasCell: Drop {
-    ghost use Rattle.station_cell.specs.Cell.{Cell};
+    ghost use Rattle.site_desk.specs.Cell.{Cell};
 
     ghost cell: { Self → Cell };
 

@@ -1,9 +1,14 @@
 //! The stations and sites of a running desk: ledgers and books under locks, tied rows, and the
 //! close.
 //!
-//! A [`Plan`] has sites and stations. [`Parts::open`] makes a [`StationCell`] for each station and a book for each
-//! site; the book's rows show the stations' figures. (The cell, its [`Pass`] and its step [`settle`] come from
-//! `station_cell`; this crate exports them again.) A [`Desk`] has the same parts, each cell and each book behind a lock
+//! A [`StationCell`] is what stands behind a station's lock: its number and its site's, its row in that site's book, its
+//! ledger, and how many changes each [`Pass`] made that it gave out. [`settle`] takes a command of a pass with the
+//! judgement of the cell's ledger; if it is accepted, the station's new figures are posted in the book, in one step, and
+//! the row stays tied to the ledger. As many accepted commands as its passes made lead from the empty content to a
+//! cell's content, under its limits.
+//!
+//! A [`Plan`] has sites and stations. [`Parts::open`] makes a cell for each station and a book for each site; the
+//! book's rows show the stations' figures. A [`Desk`] has the same parts, each cell and each book behind a lock
 //! of its own, so stations take commands at the same time. [`Desk::submit`] judges a command under the station's lock,
 //! and settles an accepted one under its site's lock too. Meanwhile viewers glance at the totals and wait for nobody.
 //! [`Desk::close`] compares all that was behind the locks and gives up the locks: a [`Closed`]. An operator reads a
@@ -30,6 +35,7 @@
 //! ```
 #![tactic(auto)]
 
+mod cell;
 mod checks;
 mod closed;
 mod desk;
@@ -40,19 +46,24 @@ mod locks;
 mod notes;
 mod operator;
 mod parts;
+mod pass;
 mod plan;
 mod roster;
 mod settles;
+mod steps;
 mod submit;
 
+pub use cell::{MAX_PASSES, StationCell, enlist_cell};
 pub use closed::{CloseRefused, Closed};
 pub use desk::Desk;
-pub use fault::{BoardFault, CloseFault, DeskFault, EnlistFault};
+pub use fault::{BoardFault, CloseFault, DeskFault, EnlistFault, TooManyPasses};
 pub use gate::{Gate, NoGate};
 pub use has_cell::HasCell;
 pub use notes::Notes;
 pub use parts::Parts;
+pub use pass::Pass;
 pub use plan::{MAX_VIEWERS, Plan, SitePlan, StationPlan};
 pub use roster::{Located, StationPlace};
 pub use settles::Settles;
+pub use steps::{are_same, settle, tied};
 pub use submit::{can_judge, settle_at};

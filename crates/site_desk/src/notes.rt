@@ -7,7 +7,7 @@ use std::sync::{MutexGuard, Wait};
 /// cell.
 pub trait Notes<C: HasCell, N> {
     ghost use Rattle.std.{specs.Prelude.{IfOk, All}, specs.Sync.Mutex.mutex_guard_value};
-    ghost use Rattle.station_cell.specs.Cell.{Cell};
+    ghost use Rattle.site_desk.specs.Cell.{Cell};
 
     ghost notes: { Self → N → Cell → Type 0 };
 

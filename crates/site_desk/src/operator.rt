@@ -1,10 +1,10 @@
 //! The parts of a running desk that an operator reads: the totals of a station, and the boards of a site at
 //! one moment.
 ghost use Rattle.std.{specs.Prelude.{◌≡◌, ◌≢◌, ◌++◌, ◌∷◌, [], List, ℕ, Err, IfOk, IfSome, OnOk, map}, specs.Sync.Mutex.mutex_guard_value};
-ghost use Rattle.site_desk.{specs.declared.fault.BoardFault.BoardFault, specs.Operator.{AreBoardsAt, AreNotedBoards, AreTotalsWithin, IsAmong, IsBoardAt, IsBoardOfCell, IsListingWithin}};
+ghost use Rattle.site_desk.{specs.declared.fault.BoardFault.BoardFault, specs.Operator.{AreBoardsAt, AreNotedBoards, AreTotalsWithin, IsAmong, IsBoardAt, IsBoardOfCell, IsListingWithin}, specs.Cell.Cell};
 ghost use Rattle.ledger_model.specs.Board.{Board, sum_of_figures};
-ghost use Rattle.station_cell.specs.Cell.{Cell};
 
+use crate::cell::StationCell;
 use crate::fault::BoardFault;
 use crate::has_cell::HasCell;
 use crate::locks::Locked;
@@ -13,7 +13,6 @@ use crate::roster::StationPlace;
 use crate::submit::{board_of, stands_at};
 use energy_flow::Flow;
 use ledger_model::{Figures, Name, TxId};
-use station_cell::StationCell;
 use station_ledger::{StationBoard, TxListing};
 use std::alloc::{AllocError, Global};
 use std::sync::{Mutex, MutexGuard, Wait};

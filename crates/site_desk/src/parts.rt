@@ -1,15 +1,14 @@
 ghost use Rattle.std.specs.Prelude.{◌≡◌, ◌↔◌, ℕ, ◌<◌, ◌≤◌, ◌^◌, [], ◌∷◌, ◌++◌, length, map, IfOk, OnOk, None, Some};
 ghost use Rattle.ledger_model.{specs.Board.figures_by, specs.Content.entries};
 ghost use Rattle.site_book.{specs.Book.{ArePlanned, known}, specs.Tables.{HasTable, NamedBy}};
-ghost use Rattle.site_desk.{specs.declared.fault.DeskFault.DeskFault, specs.Parts.{AreApart, AreBooksOf, AreHeld, AreNewBooks, AreNewCells, AreRowsKept, AreTied, HaveFewPosts, limits_at, new_viewers, row_at, viewed_by}, specs.Plan.plan_fault, specs.Roster.AreCellsOf};
-ghost use Rattle.station_cell.specs.Settle.{Holds};
+ghost use Rattle.site_desk.{specs.declared.fault.DeskFault.DeskFault, specs.Parts.{AreApart, AreBooksOf, AreHeld, AreNewBooks, AreNewCells, AreRowsKept, AreTied, HaveFewPosts, limits_at, new_viewers, row_at, viewed_by}, specs.Plan.plan_fault, specs.Roster.AreCellsOf, specs.Settle.Holds};
 
+use crate::cell::StationCell;
 use crate::fault::DeskFault;
 use crate::plan::{Plan, SitePlan, StationPlan, order_of, period_of};
 use arrayvec::ArrayVec;
 use ledger_model::{Limits, Listed, MAX_STATIONS};
 use site_book::{Naming, SiteBook, Tables, Viewer};
-use station_cell::StationCell;
 use std::alloc::{AllocError, Global};
 
 /// The parts of a desk without its locks: a cell for each station and a book for each site, both in

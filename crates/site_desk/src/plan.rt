@@ -13,7 +13,7 @@ pub const MAX_VIEWERS: u16 = 64;
 
 /// A site: its name, how many viewers it has, at most 64, the settlement periods of its boards with the rule by
 /// which differences count in them, and the order in which it takes the readings of a transaction.
-#[derive(Debug, Drop)]
+#[derive(Drop)]
 pub struct SitePlan {
     pub name: Name,
     pub viewers: u16,
@@ -22,7 +22,7 @@ pub struct SitePlan {
 }
 
 /// A station: the number of its site in the plan, its name, and its limits.
-#[derive(Debug, Drop)]
+#[derive(Drop)]
 pub struct StationPlan {
     pub site: u16,
     pub name: Name,

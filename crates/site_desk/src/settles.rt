@@ -1,10 +1,11 @@
 ghost use Rattle.site_desk.specs.Submit.{Submitted};
 
+use crate::cell::StationCell;
+use crate::pass::Pass;
 use crate::roster::Located;
 use crate::submit::{can_judge, try_settle};
 use ledger_model::{Answer, Command, Refusal};
 use site_book::{Naming, SiteBook, Told};
-use station_cell::{Pass, StationCell};
 use std::sync::{Mutex, Wait};
 
 /// How a command is taken once a desk holds the station's lock ([`Desk::submit_by`](crate::Desk::submit_by)).

@@ -1,13 +1,14 @@
 ghost use Rattle.std.specs.Prelude.{◌≡◌, IsNone, IsTrue, IfOk, IfSome};
 ghost use Rattle.ledger_model.{specs.Board.board_by, specs.Content.entries, specs.Figures.AreWithin};
-ghost use Rattle.site_desk.{specs.Roster.StandsAt, specs.Submit.{CanJudge, CanSettle, IsBoardWithin, Submitted, TellsOf}};
-ghost use Rattle.station_cell.specs.Settle.{cell_after};
+ghost use Rattle.site_desk.{specs.Roster.StandsAt, specs.Submit.{CanJudge, CanSettle, IsBoardWithin, Submitted, TellsOf}, specs.Settle.cell_after};
 ghost use Rattle.station_ledger.specs.Judged.{IsJudged};
 
+use crate::cell::StationCell;
+use crate::pass::Pass;
 use crate::roster::{Located, StationPlace};
+use crate::steps::{settle, tied};
 use ledger_model::{Answer, Command, Refusal};
 use site_book::{Naming, SiteBook, Told};
-use station_cell::{Pass, StationCell, settle, tied};
 use station_ledger::{Judgement, StationBoard};
 use std::alloc::{AllocError, Global};
 use std::sync::{Mutex, Wait};

@@ -5,7 +5,7 @@ use std::marker::Model;
 /// Which slot of an arena; contracts see its number, which is below the arena's capacity. An arena may
 /// give out an id again after it was given back, so the holder of an id has to know which value it is
 /// for.
-#[derive(Clone, Copy, Debug, PartialEq, Eq, PartialOrd, Ord, Hash)]
+#[derive(Clone, Copy, PartialEq, Eq, Hash)]
 pub struct SlotId {
     number: u32,
 }

@@ -7,7 +7,7 @@ use ledger_model::{ByDirection, EvseId, Figures, Listed, Periods, Quarter, TxId}
 use std::marker::Model;
 
 /// An EVSE of a station, 0 for no EVSE, with the energies of its transactions.
-#[derive(Clone, Copy, Debug, PartialEq, Eq)]
+#[derive(Clone, Copy)]
 pub struct EvseLine {
     evse: EvseId,
     energy: ByDirection<Flow>,
@@ -48,7 +48,7 @@ impl EvseLine {
 
 /// A settlement period of a station to which a difference of two readings, or a part of one, belongs in either
 /// direction, with its energies.
-#[derive(Clone, Copy, Debug, PartialEq, Eq)]
+#[derive(Clone, Copy)]
 pub struct QuarterLine {
     quarter: Quarter,
     energy: ByDirection<Flow>,
@@ -88,7 +88,7 @@ impl QuarterLine {
 }
 
 /// What a board shows of a transaction with a live event.
-#[derive(Debug, Drop)]
+#[derive(Drop)]
 pub struct TxLine {
     pub(crate) tx: TxId,
     pub(crate) evse: EvseId,
@@ -190,7 +190,7 @@ impl TxLine {
 
 /// The board of a station: the length of its settlement periods; its figures; its EVSEs and its periods with their
 /// energies, in rising order; and its transactions with a live event, by the bytes of their ids.
-#[derive(Debug, Drop)]
+#[derive(Drop)]
 pub struct StationBoard {
     pub(crate) period: Periods,
     pub(crate) figures: Figures,

@@ -18,7 +18,7 @@ use reading_index::PlacedReading;
 use std::alloc::{AllocError, Global};
 
 /// The events of a transaction, its live readings and its energies.
-#[derive(Debug, Drop)]
+#[derive(Drop)]
 pub struct TxListing {
     /// The order in which the site takes readings.
     pub order: Order,

@@ -10,7 +10,7 @@ use event_chain::Chains;
 use ledger_model::{ByDirection, Event, EvseId, Kind, TxId};
 
 /// What the ledger keeps of a transaction with a live event.
-#[derive(Clone, Copy, Debug, PartialEq, Eq)]
+#[derive(Clone, Copy)]
 pub struct Standing {
     /// Its lowest live number.
     pub first: u32,

@@ -15,7 +15,7 @@ pub(crate) struct Change {
 }
 
 /// The transactions with a live event of an EVSE, and their energy.
-#[derive(Clone, Copy, Debug, PartialEq, Eq)]
+#[derive(Clone, Copy)]
 pub struct EvseSum {
     /// How many transactions it has.
     pub transactions: u32,

@@ -1,5 +1,5 @@
 /// How much of each limit a station uses.
-#[derive(Clone, Copy, Debug, PartialEq, Eq)]
+#[derive(Clone, Copy)]
 pub struct UsedLimits {
     /// How many transactions have an event, live or voided.
     pub transactions: u32,

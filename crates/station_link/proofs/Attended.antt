@@ -2,8 +2,7 @@
 use Rattle.std.{proofs.Common.{◌≡◌, ℕ, Bool, true, false, List, [], ◌∷◌, ◌++◌, Option, None, Some, refl, sym, subst, ap, ◌∙◌, append-nil, append_assoc, slice_get}, specs.Prelude.All, proofs.lemmas.List.Elements.{All-append, All-cons, All-nil}}
 use Rattle.ledger_model.{specs.declared.answer.Answer.Answer, specs.declared.command.Command.Command}
 use Rattle.site_book.specs.Book.{Known}
-use Rattle.site_desk.specs.declared.roster.StationPlace.{StationPlace}
-use Rattle.station_cell.specs.Cell.{Held}
+use Rattle.site_desk.{specs.declared.roster.StationPlace.StationPlace, specs.Cell.Held}
 use Rattle.station_link.{specs.Answer.{Answers, AnswersMeaning, IsDelivered, IsNextPass}, specs.Attended.{AreAnswered, IsAnswered, IsAttended, Text, if_seen, seen_with}}
 use Rattle.transaction_event.{specs.Message.{Meaning, Event, Ready, Silence, message}, specs.Request.Request}
 

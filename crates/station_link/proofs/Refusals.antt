@@ -1,7 +1,6 @@
 -- Whom a desk lets in and whom it refuses, of those that offer the subprotocol and name a station.
 use Rattle.std.{proofs.Common.{◌≡◌, List, ℕ, Bool, true, false, None, Some, refl}, specs.List.list_any, specs.Str.bytes_eq}
-use Rattle.site_desk.{specs.declared.roster.StationPlace.StationPlace, specs.Roster.IsNamed}
-use Rattle.station_cell.specs.Cell.{Held}
+use Rattle.site_desk.{specs.declared.roster.StationPlace.StationPlace, specs.Roster.IsNamed, specs.Cell.Held}
 use Rattle.station_link.{specs.declared.ending.Why.TheVariants.{UnknownStation, TooManyPasses}, specs.declared.request.Seen.TheVariants.Request, specs.Request.{IsAdmitted, IsRefusal, refusal}}
 
 -- some station has this name

@@ -2,8 +2,7 @@
 use Rattle.std.{proofs.Common.{◌≡◌, List, Option, None, Some, Result, Ok, Err, true, refl, sym, subst, arith, slice_get}, specs.Prelude.{IfOk, OnErr}}
 use Rattle.ledger_model.{specs.declared.answer.Answer.Answer, specs.declared.answer.Answer.TheVariants.{Accepted, Repeat, Refused}, specs.declared.answer.Refusal.TheVariants.{ConflictingEvent, TooManyTransactions, EventsFull, ReadingsFull, NoSuchEvent, AlreadyVoided, NotVoided, ChangesExhausted}, specs.declared.command.Command.Command, specs.declared.command.Command.TheVariants.Deliver, specs.Event.EventContent, specs.Key.KeyName}
 use Rattle.site_book.specs.Book.{Known}
-use Rattle.site_desk.{specs.declared.roster.StationPlace.StationPlace, specs.Submit.{IsAnswered, IsUnchanged, Submitted}}
-use Rattle.station_cell.specs.Cell.{Held}
+use Rattle.site_desk.{specs.declared.roster.StationPlace.StationPlace, specs.Submit.{IsAnswered, IsUnchanged, Submitted}, specs.Cell.Held}
 use Rattle.transaction_event.{specs.Laws.EachDeliveryIsAnswered, specs.Reply.answers_delivery}
 use Rattle.station_link.specs.Answer.{IsNextPass, IsSubmitted}
 

@@ -3,8 +3,7 @@ use Rattle.std.specs.Prelude.{◌≡◌, ℕ, ◌+◌, ◌≤◌, Bool, true, fa
 use Rattle.ledger_model.{specs.declared.answer.Answer.Answer, specs.declared.answer.Answer.TheVariants.Refused, specs.declared.answer.Refusal.TheVariants.ChangesExhausted, specs.declared.command.Command.Command, specs.declared.command.Command.TheVariants.Deliver, specs.Event.EventContent, specs.Key.KeyName}
 use Rattle.ocppj_frame.specs.Frame.{frame}
 use Rattle.site_book.specs.Book.{Known}
-use Rattle.site_desk.{specs.declared.roster.StationPlace.StationPlace, specs.Submit.{IsUnchanged, Submitted}}
-use Rattle.station_cell.specs.Cell.{Held}
+use Rattle.site_desk.{specs.declared.roster.StationPlace.StationPlace, specs.Submit.{IsUnchanged, Submitted}, specs.Cell.Held}
 use Rattle.transaction_event.{specs.Message.{Meaning, Event, Ready, Silence, message}, specs.MessageMeaning.IsMemoryReply, specs.Reply.event_reply_bytes, specs.Request.Request}
 
 -- The text is a message that asks, at some moment, to deliver this event.

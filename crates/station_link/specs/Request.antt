@@ -1,8 +1,7 @@
 -- Which requests a desk lets in, by what a handshake saw.
 use Rattle.std.{specs.Prelude.{◌≡◌, ◌≢◌, ℕ, List, ◌++◌, true, false, Option, None, Some, unwrap_or, if◌then◌else◌, codes}, specs.declared.result.Result.Result, specs.declared.result.Result.TheVariants.{Ok, Err}, specs.List.list_any, specs.Str.bytes_eq}
 use Rattle.ledger_model.specs.Name.{is_name}
-use Rattle.site_desk.{specs.declared.roster.StationPlace.StationPlace, specs.Roster.IsNamed}
-use Rattle.station_cell.specs.Cell.{Held}
+use Rattle.site_desk.{specs.declared.roster.StationPlace.StationPlace, specs.Roster.IsNamed, specs.Cell.Held}
 use Rattle.station_link.{specs.declared.ending.Why.Why, specs.declared.ending.Why.TheVariants.{HandshakeFailed, UnknownStation, NotOcpp, OutOfMemory, TooManyPasses}, specs.declared.request.Seen.Seen, specs.declared.request.Seen.TheVariants.{Nothing, NoMemory, Request}}
 
 -- A path is `/ocpp/` and this name, or is not such a path (this product's profile).

@@ -27,7 +27,7 @@ pub trait Attendant {
 }
 
 /// Nobody attends: the session ends by itself, also if a read gives up waiting, and its close frame has no reason.
-#[derive(Clone, Copy, Debug)]
+#[derive(Clone, Copy)]
 pub struct Nobody;
 
 impl Attendant for Nobody {

@@ -1,8 +1,7 @@
 //! The taker of a session's events.
 use ledger_model::{Answer, Command, Event, Key};
 use site_book::{Naming, Told};
-use site_desk::{Desk, Gate};
-use station_cell::Pass;
+use site_desk::{Desk, Gate, Pass};
 use std::alloc::{AllocError, Global};
 use std::sync::Wait;
 use std::time::Clock;

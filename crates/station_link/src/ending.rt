@@ -6,7 +6,7 @@ use tungstenite::{CloseCode, Error};
 use websocket::error::ProtocolError;
 
 /// Why a session ended.
-#[derive(Clone, Copy, Debug, PartialEq, Eq)]
+#[derive(Clone, Copy)]
 pub enum Why {
     /// The station closed the session, or its stream ended.
     PeerClosed,

@@ -32,7 +32,7 @@ const READ_BYTES: usize = 4_096;
 const MAX_READS: u64 = 1_000_000;
 
 /// Why a simulated station did not get all its replies.
-#[derive(Clone, Copy, Debug, PartialEq, Eq)]
+#[derive(Clone, Copy, Debug)]
 pub enum SimFault {
     /// The opening handshake was not finished.
     HandshakeFailed,

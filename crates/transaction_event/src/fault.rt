@@ -5,7 +5,7 @@ ghost use Rattle.transaction_event.{specs.declared.fault.PayloadFault.TheVariant
 
 /// Why a TransactionEventRequest (OCPP 2.0.1 Part 2, block E) is refused. The first fault in the order
 /// of the checks is reported.
-#[derive(Clone, Copy, Debug, PartialEq, Eq)]
+#[derive(Clone, Copy, PartialEq, Eq)]
 pub enum PayloadFault {
     /// The payload is no object.
     Format,

@@ -8,8 +8,7 @@ use ledger_model::{
     Answer, Command, Direction, Event, EvseId, Figures, Key, Kind, Moment, Name, Reading, TxId,
 };
 use site_book::Naming;
-use site_desk::{Closed, Desk, NoGate};
-use station_cell::Pass;
+use site_desk::{Closed, Desk, NoGate, Pass};
 use std::alloc::Global;
 use std::sync::Wait;
 use std::thread::Threads;

@@ -8,7 +8,7 @@ use std::io::BufRead;
 
 /// The part of a line that one look at the reader gave, and whether all bytes that the reader
 /// showed were consumed.
-#[derive(Clone, Copy, Debug, PartialEq, Eq)]
+#[derive(Clone, Copy)]
 pub enum Piece {
     /// The input is at its end.
     End,

@@ -4,8 +4,7 @@ use super::{
 };
 use ledger_model::{Answer, Command, Kind, Name};
 use site_book::{Naming, Viewer};
-use site_desk::{BoardFault, CloseFault, Closed, Desk, EnlistFault, NoGate};
-use station_cell::{MAX_PASSES, Pass};
+use site_desk::{BoardFault, CloseFault, Closed, Desk, EnlistFault, MAX_PASSES, NoGate, Pass};
 use std::alloc::Global;
 use std::sync::Wait;
 use std::test::Fail;

@@ -9,8 +9,7 @@ use super::plans::{changes, closes_with_all, each_pass, has_changes, posts, seco
 use super::three::{has_three, three_sides};
 use crate::tests::plans::{opened, plan_of};
 use site_book::{Naming, Tables, Viewer};
-use site_desk::{Closed, Desk, Plan};
-use station_cell::Pass;
+use site_desk::{Closed, Desk, Pass, Plan};
 use std::alloc::Global;
 use std::marker::Brand;
 use std::process::Abort;

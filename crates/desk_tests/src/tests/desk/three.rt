@@ -10,8 +10,7 @@ use super::{
 use board_report::{SiteBoard, site_board, write_board};
 use ledger_model::{Answer, Command, Figures, Kind, Name, Order, Periods, Refusal};
 use site_book::{Naming, Viewer};
-use site_desk::{Closed, Desk, NoGate};
-use station_cell::Pass;
+use site_desk::{Closed, Desk, NoGate, Pass};
 use station_ledger::{StationBoard, StationLedger};
 use std::alloc::{AllocError, Global};
 use std::sync::Wait;

@@ -1,8 +1,7 @@
 use super::memory::Peer;
 use super::{EndedSession, FIRST, Scene, head, plays, serve, text_frames};
 use site_book::Naming;
-use site_desk::Desk;
-use station_cell::Pass;
+use site_desk::{Desk, Pass};
 use station_link::Why;
 use std::alloc::Global;
 use std::sync::Wait;

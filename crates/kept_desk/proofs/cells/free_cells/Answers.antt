@@ -1,7 +1,7 @@
 use Rattle.std.{proofs.Common.{[], ◌∷◌, ◌++◌, sym, ◌∙◌, subst}, specs.Prelude.All, proofs.lemmas.Iterator.Adapters.YieldsList-from_vec, proofs.lemmas.Iterator.Consumers.YieldsList-end, proofs.lemmas.List.map-id, proofs.lemmas.List.Elements.All-push}
 use Rattle.kept_desk.{specs.Entries.of_station, specs.Journal.Ledger, specs.Kept.{IsLeftFrom, commands_of}}
 use Rattle.ledger_model.specs.declared.command.Command.{Command}
-use Rattle.station_cell.specs.Cell.{Cell, IsInService}
+use Rattle.site_desk.specs.Cell.{Cell, IsInService}
 use Rattle.kept_desk.proofs.cells.free_cells.Goals as goal
 
 pub loop-each-preserved : goal.loop-each-preserved

@@ -1,6 +1,6 @@
 use Rattle.std.{proofs.Common.{◌≡◌, vec_capacity}, specs.Prelude.All}
 use Rattle.kept_desk.{specs.Entries.of_station, specs.Kept.{IsLeftFrom, commands_of}}
-use Rattle.station_cell.specs.Cell.{IsInService}
+use Rattle.site_desk.specs.Cell.{IsInService}
 use Rattle.kept_desk.proofs.cells.free_cells.Given as goal
 
 -- the cells so far, each with what its own entries leave

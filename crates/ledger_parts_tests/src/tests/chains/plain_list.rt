@@ -32,7 +32,7 @@ struct PlainRow {
 
 // The answers about a key, about the room for one more event, and about the key's transaction: by one call,
 // and by a call for each.
-#[derive(Clone, Copy, Debug, PartialEq, Eq)]
+#[derive(Clone, Copy, PartialEq, Eq)]
 pub(crate) struct Answers {
     found: Option<Found>,
     room: Room,

@@ -1,5 +1,5 @@
 use Rattle.std.{proofs.Common.{◌≡◌, ◌<◌, ◌≤◌, ◌++◌, length, get_or, map, take, drop, subst, ap, ◌∙◌, arith}, proofs.lemmas.List.take_all, proofs.Math.Seq.take-append_seam}
-use Rattle.station_cell.specs.Cell.{Cell, new_pass}
+use Rattle.site_desk.specs.Cell.{Cell, new_pass}
 use Rattle.script_ledgers.proofs.Enlisted.{enlisted_step, first_given, told_ok, told_value, turned_all}
 use Rattle.script_ledgers.proofs.opened_script.enlist_all.Goals as goal
 

@@ -1,5 +1,5 @@
 use Rattle.std.proofs.Common.{◌≡◌, ◌∷◌, [], length, map, take}
-use Rattle.station_cell.specs.Cell.{Cell, new_pass}
+use Rattle.site_desk.specs.Cell.{Cell, new_pass}
 use Rattle.script_ledgers.proofs.Enlisted.{turned}
 use Rattle.script_ledgers.proofs.opened_script.enlist_all.Given as goal
 

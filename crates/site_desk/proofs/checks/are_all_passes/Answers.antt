@@ -1,6 +1,5 @@
 use Rattle.std.{proofs.Common.{◌≡◌, length, map, arith}, proofs.lemmas.List.length-map}
-use Rattle.station_cell.specs.Cell.{Cell}
-use Rattle.site_desk.{specs.Close.passes_of, proofs.Comparisons.{each_more, each_all, cell_at}}
+use Rattle.site_desk.{specs.Cell.Cell, specs.Close.passes_of, proofs.Comparisons.{each_more, each_all, cell_at}}
 use Rattle.site_desk.proofs.checks.are_all_passes.Goals as goal
 
 pub loop-k-preserved : goal.loop-k-preserved

@@ -1,6 +1,5 @@
 use Rattle.std.proofs.Common.{◌≡◌, ℕ, ◌<◌, length, map, Some, slice_get}
-use Rattle.station_cell.specs.Cell.{Cell}
-use Rattle.site_desk.specs.Close.{passes_of}
+use Rattle.site_desk.{specs.Cell.Cell, specs.Close.passes_of}
 use Rattle.site_desk.proofs.checks.are_all_passes.Given as goal
 
 -- the passes of the cells so far are here

@@ -1,6 +1,5 @@
 use Rattle.std.proofs.Common.{◌≡◌, ℕ, ◌<◌, map, Some, slice_get}
-use Rattle.station_cell.specs.Cell.{Cell}
-use Rattle.site_desk.specs.Close.{IsWhole}
+use Rattle.site_desk.{specs.Cell.Cell, specs.Close.IsWhole}
 use Rattle.site_desk.proofs.checks.are_whole.Given as goal
 
 -- the cells so far are whole

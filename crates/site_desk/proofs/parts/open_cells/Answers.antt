@@ -1,6 +1,5 @@
 use Rattle.std.proofs.Common.{◌+◌, ◌∷◌, [], ◌++◌, ap, sym, ◌∙◌, subst, take, arith}
-use Rattle.site_desk.{specs.Parts.AreNewCells, proofs.NewParts.cells_more}
-use Rattle.station_cell.specs.Cell.{new_cell}
+use Rattle.site_desk.{specs.Parts.AreNewCells, proofs.NewParts.cells_more, specs.Cell.new_cell}
 use Rattle.site_desk.proofs.parts.open_cells.Goals as goal
 
 pub loop-k-preserved : goal.loop-k-preserved

@@ -1,8 +1,7 @@
 use Rattle.std.{proofs.Common.{◌≡◌, ◌≢◌, ℕ, ◌+◌, ◌<◌, [], ◌∷◌, ◌++◌, set, length-set, Some, refl, ap, sym, ◌∙◌, subst, ⊎_elim, arith, length, get_or}, specs.Prelude.slice_get, proofs.lemmas.Bool.cases_eq, proofs.lemmas.Option.{slice_get_read, slice_get-get_or, slice_get_within}}
 use Rattle.ledger_model.{specs.Board.figures_by, specs.Content.entries}
 use Rattle.site_book.specs.Book.{Book}
-use Rattle.station_cell.specs.Cell.{Cell}
-use Rattle.site_desk.{specs.Parts.{AreHeld, AreRowsKept, HaveFewPosts, IsTied}, proofs.Posted.{held_still, posts_still, rows_still, some_book, some_cell, tied_now, tied_still}}
+use Rattle.site_desk.{specs.Cell.Cell, specs.Parts.{AreHeld, AreRowsKept, HaveFewPosts, IsTied}, proofs.Posted.{held_still, posts_still, rows_still, some_book, some_cell, tied_now, tied_still}}
 use Rattle.site_desk.proofs.parts.post_all.Goals as goal
 
 pub bounds-books-site : goal.bounds-books-site

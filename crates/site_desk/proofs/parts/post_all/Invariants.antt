@@ -1,6 +1,5 @@
 use Rattle.std.{proofs.Common.{◌≡◌, ℕ, ◌<◌, Some, length}, specs.Prelude.slice_get}
-use Rattle.station_cell.specs.Cell.{Cell}
-use Rattle.site_desk.specs.Parts.{AreHeld, AreRowsKept, HaveFewPosts, IsTied}
+use Rattle.site_desk.{specs.Cell.Cell, specs.Parts.{AreHeld, AreRowsKept, HaveFewPosts, IsTied}}
 use Rattle.site_desk.proofs.parts.post_all.Given as goal
 
 -- the rows of the cells so far are tied, each row is in its old place, and no book has more posts than there were cells

@@ -1,8 +1,7 @@
 use Rattle.std.proofs.Common.{[], refl, sym, ◌∙◌, arith}
 use Rattle.ledger_model.specs.declared.answer.Answer.TheVariants.{Repeat, Refused}
 use Rattle.site_book.specs.Book.{Book}
-use Rattle.station_cell.{specs.Settle.cell_after, proofs.Settled.judged_here}
-use Rattle.site_desk.proofs.Submits.{submitted}
+use Rattle.site_desk.{specs.Settle.cell_after, proofs.Settled.judged_here, proofs.Submits.submitted}
 use Rattle.site_desk.proofs.submit.try_settle.Goals as goal
 
 pub settle_at-requires-clause-judged : goal.settle_at-requires-clause-judged

@@ -1,8 +1,7 @@
 use Rattle.std.proofs.Common.{[], refl, ap, sym, subst, ◌∙◌, arith}
 use Rattle.ledger_model.{specs.declared.answer.Answer.TheVariants.{Repeat, Refused}, specs.Laws.IsAccepted, specs.Step.answer}
 use Rattle.site_book.specs.Book.{Book}
-use Rattle.station_cell.{specs.Settle.cell_after, proofs.Settled.judged_here}
-use Rattle.site_desk.proofs.Submits.{submitted}
+use Rattle.site_desk.{specs.Settle.cell_after, proofs.Settled.judged_here, proofs.Submits.submitted}
 use Rattle.kept_desk.proofs.cell.KeptCell.submit.Goals as goal
 
 pub submit_written-requires-clause-judged : goal.submit_written-requires-clause-judged

@@ -1,9 +1,8 @@
 use Rattle.std.proofs.Common.{Option, ap, sym, ◌∙◌, subst}
 use Rattle.ledger_model.{specs.declared.answer.Answer.Answer, specs.Laws.IsAccepted, specs.Step.answer}
-use Rattle.station_cell.specs.Cell.{IsInService}
+use Rattle.site_desk.{specs.Cell.IsInService, specs.Roster.StandsAt, specs.Submit.CanJudge}
 use Rattle.station_ledger.specs.Judged.{IsJudged}
 use Rattle.site_book.specs.Book.{Known}
-use Rattle.site_desk.{specs.Roster.StandsAt, specs.Submit.CanJudge}
 use Rattle.kept_desk.{specs.Entries.{bytes_of, entry}, specs.Kept.IsReceived, specs.Speaking.SpeaksOf, proofs.Left.kept_more, proofs.Received.received}
 use Rattle.kept_desk.proofs.cell.KeptCell.submit_written.Goals as goal
 

@@ -1,8 +1,7 @@
 use Rattle.std.{proofs.Common.{◌≡◌, Some, All, length, vec_len, vec_capacity, ap, sym, ◌∙◌, subst, arith}, specs.Prelude.slice_get, proofs.lemmas.List.map-id, proofs.lemmas.Option.slice_get_within}
 use Rattle.kept_desk.{specs.Entries.of_station, specs.Journal.{IsWritten, Ledger}, specs.Kept.{IsKeptDesk, IsLeftFrom, commands_of}, proofs.Names.all_at}
 use Rattle.ledger_model.specs.declared.command.Command.{Command}
-use Rattle.station_cell.specs.Cell.{Cell, IsInService}
-use Rattle.site_desk.{specs.Close.{IsClosable, Saw}, specs.Parts.AreTied}
+use Rattle.site_desk.{specs.Cell.{Cell, IsInService}, specs.Close.{IsClosable, Saw}, specs.Parts.AreTied}
 use Rattle.site_book.specs.Prefix.{IsPrefix}
 use Rattle.kept_desk.proofs.desk.KeptDesk.close.Goals as goal
 

@@ -1,6 +1,6 @@
 use Rattle.std.{proofs.Common.{refl, sym, ap, ◌∙◌, ◌++◌, length, arith}, proofs.lemmas.Option.slice_get_read}
 use Rattle.ledger_model.{specs.Content.entries, specs.declared.reading.Direction.TheVariants.Export, specs.Energy.energy_by}
-use Rattle.station_cell.specs.Cell.{Cell}
+use Rattle.site_desk.specs.Cell.{Cell}
 use Rattle.board_report.proofs.SiteBoards.{some_same}
 use Rattle.script_lines.specs.Texts.{ended_line}
 use Rattle.script_ledgers.{specs.Script.{export_answer, export_line, order_named}, specs.State.script_of, proofs.Answered.ok_told, proofs.Named.{is_none, is_of}}

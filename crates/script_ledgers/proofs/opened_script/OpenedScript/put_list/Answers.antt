@@ -1,6 +1,6 @@
 use Rattle.std.{proofs.Common.{refl, sym, ap, ◌∙◌, ◌++◌, length, arith}, proofs.lemmas.Option.slice_get_read}
 use Rattle.ledger_model.specs.Content.{entries}
-use Rattle.station_cell.specs.Cell.{Cell}
+use Rattle.site_desk.specs.Cell.{Cell}
 use Rattle.board_report.proofs.SiteBoards.{some_same}
 use Rattle.station_ledger.specs.Listing.{listing_by}
 use Rattle.script_ledgers.{specs.Script.{list_answer, listed, order_named, period_named}, specs.State.script_of, proofs.Answered.ok_told, proofs.Named.{is_none, is_of}}

@@ -1,6 +1,6 @@
 use Rattle.std.{proofs.Common.{refl, sym, ap, ◌∙◌, ◌++◌, length, arith}, proofs.lemmas.Option.slice_get_read}
 use Rattle.ledger_model.{specs.Content.entries, specs.Board.figures_by}
-use Rattle.station_cell.specs.Cell.{Cell}
+use Rattle.site_desk.specs.Cell.{Cell}
 use Rattle.board_report.{specs.Texts.total_text, proofs.SiteBoards.some_same}
 use Rattle.script_lines.specs.Texts.{ended_line}
 use Rattle.script_ledgers.{specs.Script.{order_named, total_answer}, specs.State.script_of, proofs.Answered.ok_told, proofs.Named.{is_none, is_of}}

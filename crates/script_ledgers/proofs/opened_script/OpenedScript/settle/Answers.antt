@@ -1,5 +1,5 @@
 use Rattle.std.{proofs.Common.{◌<◌, length, set, refl, sym, ap, subst, ◌∙◌, arith}, specs.Prelude.slice_get, proofs.lemmas.Option.slice_get_read}
-use Rattle.station_cell.proofs.Settled.{judged_here}
+use Rattle.site_desk.proofs.Settled.{judged_here}
 use Rattle.script_ledgers.{specs.Running.IsRunning, proofs.Settling.{posts_of_one, settles, site_in_books, still_running}}
 use Rattle.script_ledgers.proofs.opened_script.OpenedScript.settle.Goals as goal
 

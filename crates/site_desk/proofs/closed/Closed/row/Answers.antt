@@ -1,8 +1,7 @@
 use Rattle.std.{proofs.Common.{◌≡◌, ◌<◌, length, get_or, slice_get, ap, sym, ◌∙◌, subst, arith}, proofs.lemmas.Option.{slice_get_within, get_or_from_slice_get}}
 use Rattle.ledger_model.{specs.Board.figures_by, specs.Content.entries, specs.Posts.row_after}
 use Rattle.site_book.specs.Book.{Book}
-use Rattle.station_cell.specs.Cell.{Cell}
-use Rattle.site_desk.{specs.Close.Ended, proofs.Ends.{tied_at, book_at}}
+use Rattle.site_desk.{specs.Cell.Cell, specs.Close.Ended, proofs.Ends.{tied_at, book_at}}
 use Rattle.site_desk.proofs.closed.Closed.row.Goals as goal
 
 pub index-requires : goal.index-requires

@@ -1,6 +1,6 @@
 ghost use Rattle.std.specs.Prelude.{◌≡◌, ◌≤◌, ◌+◌, ◌↔◌, ◌++◌, ◌∷◌, [], length, sum, IsTrue, IsErr, IfOk, OnOk, OnErr};
 ghost use Rattle.ledger_model.specs.Step.{Reached, answer};
-ghost use Rattle.station_cell.{specs.Cell.{IsInService, Knows, most_passes, new_cell, new_pass, no_station}, specs.Settle.{cell_after, pass_after}};
+ghost use Rattle.site_desk.{specs.Cell.{IsInService, Knows, most_passes, new_cell, new_pass, no_station}, specs.Settle.{cell_after, pass_after}};
 ghost use Rattle.station_ledger.{specs.Judged.IsJudged, specs.Spent.most_spent};
 
 use crate::fault::TooManyPasses;
@@ -31,7 +31,7 @@ pub struct StationCell {
 
 impl Model for StationCell {
     ghost use Rattle.std.specs.Prelude.{vec_capacity};
-    ghost use Rattle.station_cell.specs.Cell.{Cell, cell_code, IsCell};
+    ghost use Rattle.site_desk.specs.Cell.{Cell, cell_code, IsCell};
 
     ghost Value = { Cell };
 

@@ -1,5 +1,5 @@
-use Rattle.station_cell.proofs.Settled.{tied_told}
-use Rattle.station_cell.proofs.steps.tied.Goals as goal
+use Rattle.site_desk.proofs.Settled.{tied_told}
+use Rattle.site_desk.proofs.steps.tied.Goals as goal
 
 pub returns : goal.returns
 returns g c = tied_told c.args.cell.now c.args.book.now c.are_same.result c.row.result c.row-2.result c.figures.result

@@ -1,7 +1,7 @@
 use Rattle.std.proofs.Common.{rules, refl, ◌∙◌}
 use Rattle.ledger_model.{specs.declared.answer.Answer.TheVariants.{Repeat, Refused}, specs.Board.figures_by, specs.Content.entries}
-use Rattle.station_cell.proofs.Settled.{book_posted, known_after, tied_after}
-use Rattle.station_cell.proofs.steps.settle.Goals as goal
+use Rattle.site_desk.proofs.Settled.{book_posted, known_after, tied_after}
+use Rattle.site_desk.proofs.steps.settle.Goals as goal
 
 pub returns-in-Accepted : goal.returns-in-Accepted
 returns-in-Accepted g c =

@@ -1,5 +1,5 @@
 ghost use Rattle.std.specs.Prelude.{◌≡◌, ◌↔◌, ◌<◌, ◌^◌, length, IsTrue};
-ghost use Rattle.station_cell.{specs.Cell.Knows, specs.Settle.{Holds, IsSettled, Tied}};
+ghost use Rattle.site_desk.{specs.Cell.Knows, specs.Settle.{Holds, IsSettled, Tied}};
 ghost use Rattle.station_ledger.specs.Judged.{IsJudged};
 
 use crate::cell::StationCell;

@@ -1,7 +1,7 @@
 use Rattle.std.proofs.Common.{refl, ap, sym, ◌∙◌, arith}
 use Rattle.station_ledger.specs.Ledger.{Ledger}
-use Rattle.station_cell.{specs.Settle.cell_after, proofs.Counts.{count_at, count_read, count_part, one_more, cell_more}, proofs.Settled.cell_changed}
-use Rattle.station_cell.proofs.cell.StationCell.change.Goals as goal
+use Rattle.site_desk.{specs.Settle.cell_after, proofs.Counts.{count_at, count_read, count_part, one_more, cell_more}, proofs.Settled.cell_changed}
+use Rattle.site_desk.proofs.cell.StationCell.change.Goals as goal
 
 pub overflow_add-index_mut : goal.overflow_add-index_mut
 overflow_add-index_mut c =

@@ -14,7 +14,7 @@ pub struct Pass {
 }
 
 impl Model for Pass {
-    ghost use Rattle.station_cell.specs.Cell.{Held};
+    ghost use Rattle.site_desk.specs.Cell.{Held};
 
     ghost Value = { Held };
 

@@ -3,7 +3,7 @@ use Rattle.std.proofs.Common.{◌≡◌, ◌≢◌, ℕ, ◌+◌, List, [], ◌�
 use Rattle.ledger_model.{specs.declared.answer.Answer.Answer, specs.declared.answer.Answer.TheVariants.{Accepted, Repeat, Refused}, specs.declared.command.Command.Command, specs.declared.figures.Figures.Figures, specs.declared.order.Order.Order, specs.Board.figures_by, specs.Content.{Content, entries}, specs.Posts.row_after, specs.Step.{answer, step, content_after}, proofs.PostLemmas.{row-push_same, row-push_other}, specs.Limits.Bounds}
 use Rattle.station_ledger.{specs.Judged.IsJudged, specs.Ledger.Ledger}
 use Rattle.site_book.{specs.Book.Book, proofs.Named.get_here}
-use Rattle.station_cell.{specs.Cell.{Cell, Held, Knows}, specs.Settle.{Tied, cell_after, counts_after, pass_after, posts_after}}
+use Rattle.site_desk.{specs.Cell.{Cell, Held, Knows}, specs.Settle.{Tied, cell_after, counts_after, pass_after, posts_after}}
 
 -- a judgement by a cell's ledger is one by the cell
 pub judged_here : (limits limits' : Bounds) (content content' : Content) (command : Command) (a : Answer) → limits ≡ limits'

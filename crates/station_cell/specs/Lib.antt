@@ -1,2 +1,0 @@
-pub mod Cell
-pub mod Settle
