@@ -1,7 +1,7 @@
 ghost use Rattle.std.specs.Prelude.{◌≡◌};
 
 /// What a ledger answers to a command.
-#[derive(Clone, Copy)]
+#[derive(Clone, Copy, PartialEq, Eq)]
 pub enum Answer {
     /// The command changed the content; the number of changes accepted so far, this one included.
     Accepted(u64),
@@ -12,7 +12,7 @@ pub enum Answer {
 }
 
 /// Why a command is refused (this product's profile).
-#[derive(Clone, Copy)]
+#[derive(Clone, Copy, PartialEq, Eq)]
 pub enum Refusal {
     /// An event with this key is stored and is not equal to the delivered one.
     ConflictingEvent,

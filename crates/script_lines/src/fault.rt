@@ -1,7 +1,7 @@
 use thiserror::Error;
 
 /// Why a replay ended before the end of its script, or could not write all of its answer.
-#[derive(Clone, Copy, Debug, Error)]
+#[derive(Clone, Copy, Debug, PartialEq, Eq, Error)]
 pub enum ReplayFault {
     /// A read failed; an interrupted read is a failure too.
     #[error("ReadFault")]
