@@ -245,7 +245,12 @@ mod tests {
         let (reads, looks) = (Cell::new(0), Cell::new(0));
         let mut input = gathering(&bytes, 40_000, true, (&reads, &looks));
         // The second read meets the end and gives the rest; the third tells the end, and a further one asks anew.
-        let expected = [(Some(120_000), 3), (Some(80_000), 6), (Some(0), 6), (Some(0), 7)];
+        let expected = [
+            (Some(120_000), 3),
+            (Some(80_000), 6),
+            (Some(0), 6),
+            (Some(0), 7),
+        ];
         assert!(rt; are_read(&mut input, &bytes, &mut [0; 120_000], &expected));
         Ok(())
     }
@@ -263,7 +268,12 @@ mod tests {
     }
 
     // How often a read of an input that gives so many bytes looks for more; none if it does not give just these.
-    fn looks_for_more(bytes: &[u8], step: usize, is_ready: bool, is_gathering: bool) -> Option<usize> {
+    fn looks_for_more(
+        bytes: &[u8],
+        step: usize,
+        is_ready: bool,
+        is_gathering: bool,
+    ) -> Option<usize> {
         let (reads, looks) = (Cell::new(0), Cell::new(0));
         let mut input = gathering(bytes, step, is_ready, (&reads, &looks));
         input.is_gathering = is_gathering;
