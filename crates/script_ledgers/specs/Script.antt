@@ -1,10 +1,10 @@
 -- The text of a script: a fold over its lines (this product's profile).
 use Rattle.std.{specs.Prelude.{◌≡◌, ℕ, Bool, true, false, ◌&&◌, ◌||◌, ◌+◌, ◌==◌, nat_le, nat_lt, List, [], ◌∷◌, ◌++◌, codes, filter, get_or, slice_set, length, map, sum_by, if◌then◌else◌, Option, None, Some}, specs.List.{list_any, position}, specs.Fmt.decimal, specs.Str.bytes_eq}
 use Rattle.energy_flow.specs.Flow.{Energy}
-use Rattle.ledger_model.{specs.Periods.Periods, specs.declared.answer.Answer.Answer, specs.declared.command.Command.Command, specs.declared.command.Command.TheVariants.Deliver, specs.declared.order.Order.Order, specs.declared.order.Order.TheVariants.Sequence, specs.Board.{Board, board_by, figures_by, site_board}, specs.Content.{empty_content, entries}, specs.Energy.energy_by, specs.declared.reading.Direction.TheVariants.{Import, Export}, specs.Limits.{Bounds, default_limits}, specs.Moment.first_moment, specs.Settling.default_periods, specs.declared.settle.Settle.Settle, specs.Ranges.{most_transactions, most_events, most_readings, most_changes, most_sites, most_stations, most_plan_readings}, specs.Step.answer, specs.World.{Station, World, world_after}}
+use Rattle.ledger_model.{specs.Periods.Periods, specs.declared.command.Command.Command, specs.declared.command.Command.TheVariants.Deliver, specs.declared.order.Order.Order, specs.declared.order.Order.TheVariants.Sequence, specs.Board.{Board, board_by, figures_by, site_board}, specs.Content.{empty_content, entries}, specs.Energy.energy_by, specs.Key.KeyName, specs.declared.reading.Direction.TheVariants.{Import, Export}, specs.Limits.{Bounds, default_limits}, specs.Moment.first_moment, specs.Settling.default_periods, specs.declared.settle.Settle.Settle, specs.Ranges.{most_transactions, most_events, most_readings, most_changes, most_sites, most_stations, most_plan_readings}, specs.Step.answer, specs.World.{Station, World, world_after}}
 use Rattle.board_report.{specs.Named.NamedBoard, specs.Listing.{events_text, readings_text}, specs.Texts.{board_text, energy_text, export_text, total_text}}
 use Rattle.transaction_event.{specs.Message.{Meaning, Event, Ready, Silence, message}, specs.Reply.event_reply_bytes}
-use Rattle.script_lines.{specs.declared.script_line.LineFault.TheVariants.{DeclaredLate, PlanLimit, StationTwice, UnknownStation, UnknownSite, UnknownTransaction}, specs.declared.script_line.TxList.TxList, specs.declared.script_line.TxList.TheVariants.{Events, Readings}, specs.Lines.{Line, text_by}, specs.LineMeaning.{LineMeaning, nothing, fails, sets_limits, declares, sets_period, sets_order, sets_settle, tells, sends, delivers, commands, asks_energy, asks_export, asks_total, asks_board, lists, asks_meaning, marks, line_meaning}, specs.Texts.{ended_line, fault_line, answer_text}}
+use Rattle.script_lines.{specs.declared.script_line.LineFault.TheVariants.{DeclaredLate, PlanLimit, StationTwice, UnknownStation, UnknownSite, UnknownTransaction}, specs.declared.script_line.TxList.TxList, specs.declared.script_line.TxList.TheVariants.{Events, Readings}, specs.Lines.{Line, text_by}, specs.LineMeaning.{LineMeaning, nothing, fails, sets_limits, declares, sets_period, sets_order, sets_settle, tells, sends, delivers, commands, asks_energy, asks_export, asks_total, asks_board, lists, asks_meaning, marks, line_meaning}, specs.Texts.{ended_line, fault_line, answer_text, delivered_line, reply_line}}
 use Rattle.station_ledger.{specs.Listing.listing_by, specs.declared.listing.TxListing.TxListing}
 
 -- the state of a script: the limits of the stations that are declared next; the sites of the plan
@@ -243,14 +243,6 @@ abbrev pub sent_to : Option Station → Script → List ℕ → Script × List �
 sent_to None s text = (record s { opened = true }, fault_line UnknownStation)
 sent_to (Some station) s text = by_meaning (message text s.moment) station s
 
--- `accepted <n> <reply>`, `repeat <reply>` or `refused <name> <reply>`
-abbrev pub delivered_line : Answer → List ℕ → List ℕ
-delivered_line answer reply = ended_line (answer_text answer ++ 32 ∷ reply)
-
--- `reply <reply>`
-abbrev pub reply_line : List ℕ → List ℕ
-reply_line reply = ended_line (codes "reply " ++ reply)
-
 -- a message of a station with what becomes of it: of an event its answer and then the reply; of any other message that
 -- it has this ready reply, or none
 abbrev pub told_by : Meaning → Station → Script → Script × List ℕ
@@ -266,9 +258,13 @@ abbrev pub delivered_to : Option Station → Script → List ℕ → Script × L
 delivered_to None s text = (record s { opened = true }, fault_line UnknownStation)
 delivered_to (Some station) s text = told_by (message text s.moment) station s
 
--- `event <transaction> <seqNo>`, with the transaction's id as boards show it; `reply <reply>` or `silent`
+-- `event <transaction> <seqNo>`, with the transaction's id as boards show it
+abbrev pub event_line : KeyName → List ℕ
+event_line key = ended_line (codes "event " ++ (key.tx ++ (32 ∷ decimal key.seq)))
+
+-- what a message of this meaning asks for: its event's key, `reply <reply>` or `silent`
 abbrev pub asked_line : Meaning → List ℕ
-asked_line (Event id request) = ended_line (codes "event " ++ (request.key.tx ++ (32 ∷ decimal request.key.seq)))
+asked_line (Event id request) = event_line request.key
 asked_line (Ready reply) = reply_line reply
 asked_line Silence = ended_line (codes "silent")
 
