@@ -1,6 +1,6 @@
 //! The text of a message's line: its reply, or what became of it as well.
-ghost use Rattle.std.specs.Prelude.{◌≡◌, ◌++◌, OnOk};
-ghost use Rattle.script_ledgers.specs.Detail.{event_text, ready_text};
+ghost use Rattle.std.specs.Prelude.{◌≡◌, ◌++◌, OnOk, option_map};
+ghost use Rattle.script_ledgers.specs.Detail.{event_text, message_text, ready_text};
 
 use ledger_model::Answer;
 use script_lines::{put_delivered, put_line, put_ready};
@@ -43,5 +43,22 @@ pub fn put_ready_text(
     match detail {
         Detail::Reply => put_line(reply, text),
         Detail::Outcome => put_ready(reply, text),
+    }
+}
+
+/// Appends the text of a line with a message that got this reply, if any; an event got this answer. The error says that
+/// the allocator refused memory.
+pub fn put_message_text(
+    reply: &mut Vec<u8>,
+    detail: Detail,
+    outcome: Option<Answer>,
+    text: Option<&str>,
+) -> Result<(), AllocError>
+    ensures { OnOk result (reply.new.items ≡ reply.old.items ++ message_text detail outcome (option_map (λ t. t.now) text)) }
+{
+    match (text, outcome) {
+        (None, _) => put_line(reply, "silent"),
+        (Some(text), None) => put_ready_text(reply, detail, text),
+        (Some(text), Some(answer)) => put_event_text(reply, detail, answer, text),
     }
 }

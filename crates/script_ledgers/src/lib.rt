@@ -21,7 +21,7 @@ mod opened_script;
 mod script_state;
 
 pub use asked::put_asked;
-pub use detail::{Detail, put_event_text, put_ready_text};
+pub use detail::{Detail, put_event_text, put_message_text, put_ready_text};
 pub use draft::Draft;
 pub use listed::{put_listed, put_mark};
 pub use script_state::{MAX_SCRIPT_BYTES, ScriptState};
