@@ -1,9 +1,9 @@
 //! The answers of opened ledgers to the lines of a script.
-ghost use Rattle.std.{specs.Prelude.{◌≡◌, ℕ, ◌+◌, ◌<◌, ◌≤◌, ◌^◌, ◌++◌, List, [], length, true, OnOk, IfOk, slice_get, take, Some, refl}, specs.Io.KnownBytes.Keeps, specs.List.position, specs.Str.bytes_eq};
+ghost use Rattle.std.{specs.Prelude.{◌≡◌, ℕ, ◌+◌, ◌<◌, ◌≤◌, ◌^◌, ◌++◌, List, [], length, true, OnOk, IfOk, slice_get, take, Some, refl}, specs.List.position, specs.Str.bytes_eq};
 ghost use Rattle.board_report.specs.Texts.{board_text};
 ghost use Rattle.message_ahead.specs.Ahead.{Asks};
-ghost use Rattle.script_lines.{specs.LineMeaning.{asks_energy, asks_export, asks_total, commands, lists, sends}, specs.Lines.line_bytes, specs.ScriptLines.meaning_of};
-ghost use Rattle.script_ledgers.{specs.Detail.message_line, specs.Received.TakesMessageAt, specs.Running.SettlesAt, specs.Script.{board_answer, board_of_site, line_step, step_by}, specs.State.{posts_of, script_of}};
+ghost use Rattle.script_lines.{specs.LineMeaning.{asks_energy, asks_export, asks_total, commands, lists, sends}, specs.ScriptLines.meaning_of};
+ghost use Rattle.script_ledgers.{specs.Detail.message_line, specs.Received.TakesMessageAt, specs.Running.SettlesAt, specs.Script.{board_answer, board_of_site, step_by}, specs.State.{posts_of, script_of}};
 ghost use Rattle.transaction_event.specs.MessageMeaning.{HasShortId, asking, with_reply};
 
 use crate::asked::put_asked;
@@ -13,61 +13,13 @@ use crate::opened_script::OpenedScript;
 use board_report::{energy_text, export_text, site_text, total_text};
 use ledger_model::{Answer, Command, Name, TxId};
 use message_ahead::SentEvent;
-use script_lines::{
-    LineFault, LineReader, ScriptLine, TxList, put_answer, put_fault, put_line, read_line,
-};
+use script_lines::{LineFault, ScriptLine, TxList, put_answer, put_fault, put_line};
 use site_book::Naming;
 use site_desk::settle;
 use std::alloc::AllocError;
-use std::io;
-use std::io::BufRead;
-use std::thread::Threads;
 use transaction_event::{Asked, Delivery, put_event_reply, read_message};
 
 impl<J: Naming> OpenedScript<J> {
-    // Lets threads read the lines to come that the reader shows, if that is due. It consumes none of them and waits for
-    // none. If the reader fails to show them, it returns the reader's error.
-    pub(crate) fn look<X: Threads, R: BufRead>(
-        &mut self,
-        rt: &X,
-        lines: &LineReader,
-        reader: &mut R,
-    ) -> io::Result<()>
-        ensures reader { Keeps (R.remaining reader.old) (R.remaining reader.new) }
-        ensures script { script_of self.new ≡ script_of self.old }
-        ensures posts { posts_of self.new ≡ posts_of self.old }
-    {
-        let is_due = self.ahead.is_due(lines.room);
-        if lines.is_drained || !is_due {
-            return Ok(());
-        }
-        let shown = reader.fill_buf()?;
-        self.ahead.look(rt, shown);
-        Ok(())
-    }
-
-    // Puts the answer to a line into the reply: to its event if that was read ahead, else to what it says.
-    pub(crate) fn answer(
-        &mut self,
-        line: Option<&[u8]>,
-        reply: &mut Vec<u8>,
-    ) -> Result<(), AllocError>
-        requires empty { reply.old.items ≡ [] }
-        requires few { posts_of self.old < 2 ^ 62 }
-        ensures step { OnOk result (line_step (script_of self.old) (line_bytes line.entry) ≡ (script_of self.new, reply.new.items)) }
-        ensures posts { OnOk result (posts_of self.new ≤ posts_of self.old + 1) }
-    {
-        if self.ahead.is_short() {
-            return Err(AllocError);
-        }
-        if let Some(bytes) = line {
-            if let Some(sent) = self.ahead.take(bytes) {
-                return self.receive_ahead(sent, reply);
-            }
-        }
-        self.answer_asked(read_line(line), reply)
-    }
-
     // Puts the answer to a line of this meaning into the reply.
     pub(crate) fn answer_asked(
         &mut self,
@@ -107,7 +59,11 @@ impl<J: Naming> OpenedScript<J> {
     }
 
     // Delivers an event that was read ahead, and puts the answer into the reply.
-    fn receive_ahead(&mut self, sent: SentEvent, reply: &mut Vec<u8>) -> Result<(), AllocError>
+    pub(crate) fn receive_ahead(
+        &mut self,
+        sent: SentEvent,
+        reply: &mut Vec<u8>,
+    ) -> Result<(), AllocError>
         requires empty { reply.old.items ≡ [] }
         requires short { HasShortId (asking sent.delivery) }
         requires few { posts_of self.old < 2 ^ 62 }

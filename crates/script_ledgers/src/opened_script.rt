@@ -6,7 +6,6 @@ ghost use Rattle.script_ledgers.{specs.Drafts.planned, specs.Running.{AreTheirPa
 use crate::draft::Draft;
 use crate::hints::StationHints;
 use arrayvec::ArrayString;
-use message_ahead::Lookahead;
 use site_book::{Naming, SiteBook, Tables};
 use site_desk::{Parts, Pass, StationCell, enlist_cell};
 use std::alloc::{AllocError, Global};
@@ -21,8 +20,6 @@ pub(crate) struct OpenedScript<J: Naming> {
     pub(crate) cells: Vec<StationCell>,
     // The book of each site, in the plan's order.
     pub(crate) books: Vec<SiteBook<J>>,
-    // The events of lines to come that threads have read.
-    pub(crate) ahead: Lookahead,
     // Hints of the numbers of stations.
     pub(crate) hints: StationHints,
     // The reply to the message at hand.
@@ -55,7 +52,6 @@ impl<J: Naming> OpenedScript<J> {
                     draft,
                     cells,
                     books: books.into_vec(),
-                    ahead: Lookahead::new(alloc),
                     hints: StationHints::new(),
                     text: ArrayString::new(),
                     passes,
@@ -79,7 +75,6 @@ impl<J: Naming> OpenedScript<J> {
             draft,
             cells,
             books: _,
-            ahead: _,
             hints: _,
             text: _,
             passes,

@@ -1,17 +1,18 @@
-ghost use Rattle.std.{specs.Prelude.{◌≡◌, ℕ, ◌+◌, ◌<◌, ◌≤◌, ◌^◌, [], None, IfOk, OnOk}, specs.Io.KnownBytes.Keeps};
+ghost use Rattle.std.specs.Prelude.{◌≡◌, ℕ, ◌+◌, ◌<◌, ◌≤◌, ◌^◌, List, [], None, IfOk, OnOk};
+ghost use Rattle.message_ahead.specs.Ahead.{Asks};
 ghost use Rattle.script_ledgers.{specs.Running.{AreTheirPasses, running}, specs.Script.{line_step, opened_for, opened_script, opening, start, step_by}};
-ghost use Rattle.script_lines.{specs.Lines.line_bytes, specs.ScriptLines.meaning_of};
+ghost use Rattle.script_lines.{specs.LineMeaning.sends, specs.Lines.line_bytes, specs.ScriptLines.meaning_of};
 ghost use Rattle.site_book.specs.Tables.{HasTable, NamedBy};
 ghost use Rattle.site_desk.{specs.Plan.plan_fault, specs.Roster.AreCellsOf};
+ghost use Rattle.transaction_event.specs.MessageMeaning.{HasShortId, asking};
 
 use crate::draft::Draft;
 use crate::opened_script::OpenedScript;
-use script_lines::{LineReader, ScriptLine, read_line};
+use message_ahead::SentEvent;
+use script_lines::{ScriptLine, read_line};
 use site_book::{Naming, Tables};
 use site_desk::{Pass, StationCell};
 use std::alloc::AllocError;
-use std::io;
-use std::io::BufRead;
 use std::marker::Model;
 use std::thread::Threads;
 
@@ -82,13 +83,7 @@ impl<J: Naming> ScriptState<J> {
         ensures step { OnOk result (line_step self.old.script (line_bytes line.entry) ≡ (self.new.script, reply.new.items)) }
         ensures posts { OnOk result (self.new.posts ≤ self.old.posts + 1) }
     {
-        match &self.declared {
-            Some(_) => self.answer_asked(rt, read_line(line), reply),
-            None => match &mut self.opened {
-                Some(opened) => opened.answer(line, reply),
-                None => Err(AllocError),
-            },
-        }
+        self.answer_asked(rt, read_line(line), reply)
     }
 
     // Puts the answer to a line of this meaning into the reply; before, it opens the ledgers if the line
@@ -114,20 +109,30 @@ impl<J: Naming> ScriptState<J> {
         }
     }
 
-    /// Lets threads read the lines to come that the reader shows, if that is due. It consumes none of them and waits
-    /// for none. If the reader fails to show them, it returns the reader's error.
-    pub fn look<X: Threads, R: BufRead>(
+    // Whether the ledgers are opened.
+    pub(crate) fn is_opened(&self) -> bool {
+        self.opened.is_some()
+    }
+
+    // Delivers an event that was read ahead, and puts the answer into the reply. Before the ledgers are opened nothing is
+    // read ahead, and it only reports an error.
+    pub(crate) fn receive_ahead(
         &mut self,
-        rt: &X,
-        lines: &LineReader,
-        reader: &mut R,
-    ) -> io::Result<()>
-        ensures reader { Keeps (R.remaining reader.old) (R.remaining reader.new) }
-        ensures same { self.new ≡ self.old }
+        sent: SentEvent,
+        reply: &mut Vec<u8>,
+    ) -> Result<(), AllocError>
+        requires empty { reply.old.items ≡ [] }
+        requires short { HasShortId (asking sent.delivery) }
+        requires few { self.old.posts < 2 ^ 62 }
+        ensures step { (text : List ℕ) → Asks text sent.delivery → OnOk result (step_by self.old.script (sends sent.station text) ≡ (self.new.script, reply.new.items)) }
+        ensures posts { OnOk result (self.new.posts ≤ self.old.posts + 1) }
     {
-        match &mut self.opened {
-            Some(opened) => opened.look(rt, lines, reader),
-            None => Ok(()),
+        match &self.declared {
+            Some(_) => Err(AllocError),
+            None => match &mut self.opened {
+                Some(opened) => opened.receive_ahead(sent, reply),
+                None => Err(AllocError),
+            },
         }
     }
 

@@ -4,17 +4,25 @@ ghost use Rattle.script_replay.{specs.Answering.WritesLine, specs.Outcome.IsRepl
 ghost use Rattle.site_book.specs.Tables.{HasTable, NamedBy};
 ghost use Rattle.script_ledgers.specs.Script.{script_text};
 
-use script_ledgers::{MAX_SCRIPT_BYTES, ScriptState};
+use message_ahead::Ahead;
+use script_ledgers::{MAX_SCRIPT_BYTES, ScriptAhead};
 use script_lines::{LineEnd, LineReader, MAX_LINE_BYTES, ReplayFault, WriteStopped, write_bytes};
 use site_book::{Naming, Tables};
 use std::io::{BufRead, Write};
 use std::thread::Threads;
 
-// Replays a script over tables that J names. It writes the answer of each line before it waits for more input; it
-// leaves the last flush to the caller.
-pub(crate) fn replay_lines<J: Naming, X: AllocGlobal + Threads, R: BufRead, W: Write>(
+// Replays a script over tables that J names, with what reads its events ahead. It writes the answer of each line before
+// it waits for more input; it leaves the last flush to the caller.
+pub(crate) fn replay_lines<
+    J: Naming,
+    X: AllocGlobal + Threads,
+    A: Ahead<X> + Drop,
+    R: BufRead,
+    W: Write,
+>(
     rt: &X,
     tables: Tables,
+    ahead: A,
     reader: &mut R,
     writer: &mut W,
 ) -> Result<(), ReplayFault>
@@ -23,7 +31,7 @@ pub(crate) fn replay_lines<J: Naming, X: AllocGlobal + Threads, R: BufRead, W: W
     ensures run { IsReplay (R.remaining reader.old) (R.remaining reader.new) (W.contents writer.old) (W.contents writer.new) result }
     ensures end { OnOk result (OnSome (R.remaining reader.old) (IsAtEnd (R.remaining reader.new))) }
 {
-    let mut script = ScriptState::<J>::begin(tables);
+    let mut script = ScriptAhead::<J, A>::begin(tables, ahead);
     let mut lines = LineReader::open(rt.alloc(), MAX_LINE_BYTES, MAX_SCRIPT_BYTES);
     let mut reply = Vec::new(rt.alloc());
     'lines: loop {
@@ -49,9 +57,9 @@ pub(crate) fn replay_lines<J: Naming, X: AllocGlobal + Threads, R: BufRead, W: W
 }
 
 // Answers one line, and writes its text.
-fn answer_line<J: Naming, X: AllocGlobal + Threads, W: Write>(
+fn answer_line<J: Naming, X: AllocGlobal + Threads, A: Ahead<X> + Drop, W: Write>(
     rt: &X,
-    script: &mut ScriptState<J>,
+    script: &mut ScriptAhead<J, A>,
     line: Option<&[u8]>,
     reply: &mut Vec<u8>,
     writer: &mut W,
