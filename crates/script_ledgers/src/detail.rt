@@ -54,7 +54,7 @@ pub fn put_message_text(
     outcome: Option<Answer>,
     text: Option<&str>,
 ) -> Result<(), AllocError>
-    ensures { OnOk result (reply.new.items ≡ reply.old.items ++ message_text detail outcome (option_map (λ t. t.now) text)) }
+    ensures { OnOk result (reply.new.items ≡ reply.old.items ++ message_text detail outcome (option_map (λ t. t.now) text.entry)) }
 {
     match (text, outcome) {
         (None, _) => put_line(reply, "silent"),

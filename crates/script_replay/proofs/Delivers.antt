@@ -45,11 +45,11 @@ delivering_state s (lists _ _ _) = refl
 delivering_state s (asks_meaning _) = refl
 delivering_state s (marks _) = refl
 
-first_same : (a b : LineMeaning) (as bs : List LineMeaning) → a ∷ as ≡ b ∷ bs → a ≡ b
-first_same a b as bs e = cc e
+first_same : (a b : LineMeaning) (xs ys : List LineMeaning) → a ∷ xs ≡ b ∷ ys → a ≡ b
+first_same a b xs ys e = cc e
 
-others_same : (a b : LineMeaning) (as bs : List LineMeaning) → a ∷ as ≡ b ∷ bs → as ≡ bs
-others_same a b as bs e = cc e
+others_same : (a b : LineMeaning) (xs ys : List LineMeaning) → a ∷ xs ≡ b ∷ ys → xs ≡ ys
+others_same a b xs ys e = cc e
 
 none_some : {P : Type 0} (b : LineMeaning) (bs : List LineMeaning) → [] ≡ b ∷ bs → P
 none_some b bs e = cc e
