@@ -20,6 +20,8 @@ impl Model for Work {
     ghost Value = { ℕ };
 
     ghost view = { λ w. w.count };
+
+    ghost inverse = { λ n. record { count = n } };
 }
 
 impl Work {
