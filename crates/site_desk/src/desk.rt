@@ -386,7 +386,15 @@ impl<J: Naming, C: HasCell> Desk<J, C> {
             return Err(BoardFault::OutOfMemory);
         };
         let book = lock.lock(rt);
-        let (_held, boards, noted) = noted_boards_of(rt, alloc, &self.places, held, site, way, work)?;
+        let (_held, boards, noted) = noted_boards_of(
+            rt,
+            alloc,
+            &self.places,
+            held,
+            site,
+            way,
+            work,
+        )?;
         match sum_of(&boards) {
             Some(totals) if totals == book.totals() => Ok((boards, totals, noted)),
             _ => Err(BoardFault::Torn),

@@ -70,7 +70,15 @@ pub(crate) fn site_boards_of<C: HasCell>(
 {
     let mut boards = Vec::new(alloc);
     for number in 0..places.len() {
-        add_board(alloc, &places[number], number, held, site, &mut boards, work)?;
+        add_board(
+            alloc,
+            &places[number],
+            number,
+            held,
+            site,
+            &mut boards,
+            work,
+        )?;
     }
     Ok(boards)
 }
