@@ -2,7 +2,7 @@
 use Rattle.std.{proofs.Common.{◌≡◌, ℕ, ◌<◌, true, false, List, [], ◌∷◌, Option, None, Some, length, refl, subst, ap, sym, ◌∙◌, bytes_eq, arith}, specs.Prelude.{IfSome, slice_get}, specs.List.position, proofs.lemmas.Option.slice_get_within}
 use Rattle.ledger_model.{specs.declared.answer.Answer.Answer, specs.declared.command.Command.Command, specs.declared.command.Command.TheVariants.Deliver, specs.World.{Station, world_after}}
 use Rattle.site_book.specs.Book.{Book}
-use Rattle.site_desk.{specs.declared.plan.StationPlan.StationPlan, specs.Cell.{Cell, Held}}
+use Rattle.site_desk.{specs.declared.plan.StationPlan.StationPlan, specs.Cell.{Cell, Tallied}}
 use Rattle.transaction_event.{specs.declared.message.Message.Message, specs.Message.message, specs.MessageMeaning.IsMeaningOf}
 use Rattle.transaction_event.specs.declared.message.Message.TheVariants as read
 use Rattle.board_report.proofs.SiteBoards.{stands}
@@ -12,7 +12,7 @@ use Rattle.script_lines.{specs.declared.script_line.LineFault.TheVariants.Unknow
 pub some_of : {X : Type 0} (o : Option X) (x : X) (P : X → Type 0) → o ≡ Some x → IfSome o P → P x
 some_of o x P e h = subst (λ p. IfSome p P) e h
 
-module _ (d : Drafted) (cells : List Cell) (books : List Book) (passes : List Held) (r : IsRunning d.sites d.stations cells books passes) where
+module _ (d : Drafted) (cells : List Cell) (books : List Book) (tallies : List Tallied) (r : IsRunning d.sites d.stations cells books tallies) where
   -- the station of a place, with its cell
   pub record IsAt (k : ℕ) : Type 0 where
     pub station : Station
@@ -29,7 +29,7 @@ module _ (d : Drafted) (cells : List Cell) (books : List Book) (passes : List He
       let s = stands d.stations k less in
       let c = stands cells k (omega (arith, less, r.all_cells)) in
       let mine : Station = new_station s.0.limits (site_name d.sites s.0.site) s.0.name in
-      let site = at_site d.sites s.0.site r.plan.sites_once (site_within d.sites d.stations cells books passes r k s.0 s.1) in
+      let site = at_site d.sites s.0.site r.plan.sites_once (site_within d.sites d.stations cells books tallies r k s.0 s.1) in
       record {
         station = record mine { content = c.0.content };
         there = station_at (planned_world d.sites d.stations) cells k mine c.0 (planned_at d.sites d.stations k s.0 s.1) c.1;

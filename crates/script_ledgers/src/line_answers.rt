@@ -11,6 +11,7 @@ use crate::detail::{Detail, put_event_text, put_ready_text};
 use crate::listed::{put_listed, put_mark};
 use crate::opened_script::OpenedScript;
 use board_report::{energy_text, export_text, site_text, total_text};
+use energy_flow::Work;
 use ledger_model::{Answer, Command, Name, TxId};
 use message_ahead::SentEvent;
 use script_lines::{LineFault, ScriptLine, TxList, put_answer, put_fault, put_line};
@@ -25,11 +26,13 @@ impl<J: Naming> OpenedScript<J> {
         &mut self,
         asked: ScriptLine<'_>,
         reply: &mut Vec<u8>,
+        work: &mut Work,
     ) -> Result<(), AllocError>
         requires empty { reply.old.items ≡ [] }
         requires few { posts_of self.old < 2 ^ 62 }
         ensures step { OnOk result (step_by (script_of self.old) (meaning_of asked.entry) ≡ (script_of self.new, reply.new.items)) }
         ensures posts { OnOk result (posts_of self.new ≤ posts_of self.old + 1) }
+        ensures work { work.old ≤ work.new }
     {
         match asked {
             ScriptLine::Nothing => Ok(()),
@@ -43,14 +46,14 @@ impl<J: Naming> OpenedScript<J> {
                 self.draft.tell(moment);
                 Ok(())
             }
-            ScriptLine::Sends(name, text) => self.receive(&name, text, Detail::Reply, reply),
-            ScriptLine::Delivers(name, text) => self.receive(&name, text, Detail::Outcome, reply),
-            ScriptLine::Commands(name, command) => self.command(&name, command, reply),
+            ScriptLine::Sends(name, text) => self.receive(&name, text, Detail::Reply, reply, work),
+            ScriptLine::Delivers(name, text) => self.receive(&name, text, Detail::Outcome, reply, work),
+            ScriptLine::Commands(name, command) => self.command(&name, command, reply, work),
             ScriptLine::AsksEnergy(name) => self.put_energy(&name, reply),
             ScriptLine::AsksExport(name) => self.put_export(&name, reply),
             ScriptLine::AsksTotal(name) => self.put_total(&name, reply),
-            ScriptLine::AsksBoard(name) => self.put_board(&name, reply),
-            ScriptLine::Lists(what, name, tx) => self.put_list(what, &name, &tx, reply),
+            ScriptLine::AsksBoard(name) => self.put_board(&name, reply, work),
+            ScriptLine::Lists(what, name, tx) => self.put_list(what, &name, &tx, reply, work),
             ScriptLine::AsksMeaning(text) => {
                 put_asked(self.alloc, reply, text, self.draft.moment())
             }
@@ -63,18 +66,20 @@ impl<J: Naming> OpenedScript<J> {
         &mut self,
         sent: SentEvent,
         reply: &mut Vec<u8>,
+        work: &mut Work,
     ) -> Result<(), AllocError>
         requires empty { reply.old.items ≡ [] }
         requires short { HasShortId (asking sent.delivery) }
         requires few { posts_of self.old < 2 ^ 62 }
         ensures step { (text : List ℕ) → Asks text sent.delivery → OnOk result (step_by (script_of self.old) (sends sent.station text) ≡ (script_of self.new, reply.new.items)) }
         ensures posts { OnOk result (posts_of self.new ≤ posts_of self.old + 1) }
+        ensures work { work.old ≤ work.new }
     {
         let SentEvent { station, delivery } = sent;
         match self.station_number(&station) {
             Some(number) => {
                 self.hints.keep(&station, number);
-                self.deliver(number, delivery, Detail::Reply, reply)
+                self.deliver(number, delivery, Detail::Reply, reply, work)
             }
             None => put_fault(reply, LineFault::UnknownStation),
         }
@@ -87,17 +92,19 @@ impl<J: Naming> OpenedScript<J> {
         text: &str,
         detail: Detail,
         reply: &mut Vec<u8>,
+        work: &mut Work,
     ) -> Result<(), AllocError>
         requires empty { reply.old.items ≡ [] }
         requires few { posts_of self.old < 2 ^ 62 }
         ensures step { OnOk result (step_by (script_of self.old) (message_line detail name.now text.now) ≡ (script_of self.new, reply.new.items)) }
         ensures posts { OnOk result (posts_of self.new ≤ posts_of self.old + 1) }
+        ensures work { work.old ≤ work.new }
     {
         match self.station_number(name) {
             Some(number) => {
                 self.hints.keep(name, number);
                 let asked = read_message(self.alloc, text, self.draft.moment(), &mut self.text);
-                self.answer_message(number, asked, detail, reply)
+                self.answer_message(number, asked, detail, reply, work)
             }
             None => put_fault(reply, LineFault::UnknownStation),
         }
@@ -117,15 +124,17 @@ impl<J: Naming> OpenedScript<J> {
         name: &Name,
         command: Command,
         reply: &mut Vec<u8>,
+        work: &mut Work,
     ) -> Result<(), AllocError>
         requires empty { reply.old.items ≡ [] }
         requires few { posts_of self.old < 2 ^ 62 }
         ensures step { OnOk result (step_by (script_of self.old) (commands name.now command) ≡ (script_of self.new, reply.new.items)) }
         ensures posts { OnOk result (posts_of self.new ≤ posts_of self.old + 1) }
+        ensures work { work.old ≤ work.new }
     {
         match self.draft.station(name) {
             Some(number) => {
-                let answer = self.settle(number, command);
+                let answer = self.settle(number, command, work);
                 put_answer(reply, answer)
             }
             None => put_fault(reply, LineFault::UnknownStation),
@@ -140,6 +149,7 @@ impl<J: Naming> OpenedScript<J> {
         asked: Asked,
         detail: Detail,
         reply: &mut Vec<u8>,
+        work: &mut Work,
     ) -> Result<(), AllocError>
         requires empty { reply.old.items ≡ [] }
         requires there { number < length self.old.draft.stations }
@@ -147,9 +157,10 @@ impl<J: Naming> OpenedScript<J> {
         requires few { posts_of self.old < 2 ^ 62 }
         ensures takes { OnOk result (TakesMessageAt detail number (script_of self.old) (script_of self.new) (with_reply asked self.old.text) reply.new.items) }
         ensures posts { OnOk result (posts_of self.new ≤ posts_of self.old + 1) }
+        ensures work { work.old ≤ work.new }
     {
         match asked {
-            Asked::Event(delivery) => self.deliver(number, delivery, detail, reply),
+            Asked::Event(delivery) => self.deliver(number, delivery, detail, reply, work),
             Asked::Reply { memory } => {
                 if memory {
                     return Err(AllocError);
@@ -167,6 +178,7 @@ impl<J: Naming> OpenedScript<J> {
         delivery: Delivery,
         detail: Detail,
         reply: &mut Vec<u8>,
+        work: &mut Work,
     ) -> Result<(), AllocError>
         requires empty { reply.old.items ≡ [] }
         requires there { number < length self.old.draft.stations }
@@ -174,6 +186,7 @@ impl<J: Naming> OpenedScript<J> {
         requires few { posts_of self.old < 2 ^ 62 }
         ensures takes { OnOk result (TakesMessageAt detail number (script_of self.old) (script_of self.new) (asking delivery) reply.new.items) }
         ensures posts { OnOk result (posts_of self.new ≤ posts_of self.old + 1) }
+        ensures work { work.old ≤ work.new }
     {
         let Delivery {
             id,
@@ -181,23 +194,25 @@ impl<J: Naming> OpenedScript<J> {
             event,
             token,
         } = delivery;
-        let answer = self.settle(number, Command::Deliver(key, event));
+        let answer = self.settle(number, Command::Deliver(key, event), work);
         put_event_reply(&mut self.text, id.as_str(), token, &answer);
         put_event_text(reply, detail, answer, self.text.as_str())
     }
 
     // Settles a command on the station of this number.
-    fn settle(&mut self, number: usize, command: Command) -> Answer
+    fn settle(&mut self, number: usize, command: Command, work: &mut Work) -> Answer
         requires there { number < length self.old.draft.stations }
         requires few { posts_of self.old < 2 ^ 62 }
         ensures settled { SettlesAt number (script_of self.old) (script_of self.new) command result }
         ensures posts { posts_of self.new ≤ posts_of self.old + 1 }
+        ensures work { work.old ≤ work.new }
     {
         let cell = &mut self.cells[number];
         let site = cell.site() as usize;
-        let pass = &mut self.passes[number];
+        let tally = &mut self.tallies[number];
         let judgement = cell.ledger().judgement(&command);
-        let (answer, _) = settle(cell, &mut self.books[site], pass, command, judgement);
+        let book = &mut self.books[site];
+        let (answer, _) = settle(cell, book, tally, work, command, judgement);
         answer
     }
 
@@ -241,13 +256,19 @@ impl<J: Naming> OpenedScript<J> {
     }
 
     // Puts the board of a site into the reply.
-    fn put_board(&self, name: &Name, reply: &mut Vec<u8>) -> Result<(), AllocError>
+    fn put_board(
+        &self,
+        name: &Name,
+        reply: &mut Vec<u8>,
+        work: &mut Work,
+    ) -> Result<(), AllocError>
         requires { reply.old.items ≡ [] }
-        ensures { OnOk result (reply.new.items ≡ board_answer (script_of self.now) name.now) }
+        ensures work { work.old ≤ work.new }
+        ensures text { OnOk result (reply.new.items ≡ board_answer (script_of self.now) name.now) }
     {
         match self.draft.site(name) {
             Some(site) => {
-                *reply = self.board_text(name, site)?;
+                *reply = self.board_text(name, site, work)?;
                 Ok(())
             }
             None => put_fault(reply, LineFault::UnknownSite),
@@ -261,14 +282,16 @@ impl<J: Naming> OpenedScript<J> {
         name: &Name,
         tx: &TxId,
         reply: &mut Vec<u8>,
+        work: &mut Work,
     ) -> Result<(), AllocError>
         requires { reply.old.items ≡ [] }
-        ensures { OnOk result (reply.new.items ≡ (step_by (script_of self.now) (lists what name.now tx.now)).1) }
+        ensures work { work.old ≤ work.new }
+        ensures text { OnOk result (reply.new.items ≡ (step_by (script_of self.now) (lists what name.now tx.now)).1) }
     {
         match self.draft.station(name) {
             Some(number) => {
                 let listing = self.cells[number].ledger().listing(self.alloc, tx)?;
-                put_listed(self.alloc, reply, what, name, tx, &listing)
+                put_listed(self.alloc, reply, what, name, tx, &listing, work)
             }
             None => put_fault(reply, LineFault::UnknownStation),
         }
@@ -276,9 +299,15 @@ impl<J: Naming> OpenedScript<J> {
 
     // The text of the board of the site of this name and number. Its totals are those of the site's
     // book.
-    fn board_text(&self, name: &Name, site: usize) -> Result<Vec<u8>, AllocError>
+    fn board_text(
+        &self,
+        name: &Name,
+        site: usize,
+        work: &mut Work,
+    ) -> Result<Vec<u8>, AllocError>
         requires { position (λ s. bytes_eq name.now s.name) self.now.draft.sites ≡ Some site }
-        ensures { IfOk result (λ text. text.items ≡ board_text (board_of_site (script_of self.now) name.now)) }
+        ensures work { work.old ≤ work.new }
+        ensures text { IfOk result (λ text. text.items ≡ board_text (board_of_site (script_of self.now) name.now)) }
     {
         let totals = self.books[site].totals();
         site_text(
@@ -288,6 +317,7 @@ impl<J: Naming> OpenedScript<J> {
             site,
             name,
             totals,
+            work,
         )
     }
 }

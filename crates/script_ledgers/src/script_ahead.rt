@@ -4,6 +4,7 @@ ghost use Rattle.script_lines.specs.Lines.{line_bytes};
 ghost use Rattle.site_book.specs.Tables.{HasTable, NamedBy};
 
 use crate::script_state::ScriptState;
+use energy_flow::Work;
 use message_ahead::Ahead;
 use script_lines::LineReader;
 use site_book::{Naming, Tables};
@@ -11,7 +12,6 @@ use std::alloc::AllocError;
 use std::io;
 use std::io::BufRead;
 use std::marker::Model;
-use std::thread::Threads;
 
 /// A script, and what reads its events ahead once its ledgers are opened. Contracts see it as the script's state.
 #[derive(Drop)]
@@ -66,11 +66,12 @@ impl<J: Naming, A: Drop> ScriptAhead<J, A> {
 
     /// Puts the text that answers one line into the reply, as [`ScriptState::answer`] does: the answer to its event if
     /// that was read ahead.
-    pub fn answer<X: AllocGlobal + Threads>(
+    pub fn answer<X: AllocGlobal>(
         &mut self,
         rt: &X,
         line: Option<&[u8]>,
         reply: &mut Vec<u8>,
+        work: &mut Work,
     ) -> Result<(), AllocError>
     where
         A: Ahead<X>,
@@ -78,16 +79,17 @@ impl<J: Naming, A: Drop> ScriptAhead<J, A> {
         requires few { self.old.posts < 2 ^ 62 }
         ensures step { OnOk result (line_step self.old.script (line_bytes line.entry) ≡ (self.new.script, reply.new.items)) }
         ensures posts { OnOk result (self.new.posts ≤ self.old.posts + 1) }
+        ensures work { work.old ≤ work.new }
     {
         if self.ahead.has_no_memory() {
             return Err(AllocError);
         }
         if let Some(bytes) = line {
             if let Some(sent) = self.ahead.take_event(bytes) {
-                return self.script.receive_ahead(sent, reply);
+                return self.script.receive_ahead(sent, reply, work);
             }
         }
-        self.script.answer(rt, line, reply)
+        self.script.answer(rt, line, reply, work)
     }
 
     /// The script, without what was read ahead.

@@ -8,6 +8,7 @@ ghost use Rattle.transaction_event.specs.MessageMeaning.{HasShortId, asking};
 
 use crate::draft::Draft;
 use crate::opened_script::OpenedScript;
+use energy_flow::Work;
 use message_ahead::SentEvent;
 use script_lines::{ScriptLine, read_line};
 use site_book::{Naming, Tables};
@@ -71,39 +72,44 @@ impl<J: Naming> ScriptState<J> {
     }
 
     /// Puts the text that answers one line, which may be too long, into the reply. The first line that needs the
-    /// ledgers opens them. The error is a lack of memory; after it the caller answers no further line.
-    pub fn answer<X: AllocGlobal + Threads>(
+    /// ledgers opens them. `work` counts the looks at levels. The error is a lack of memory; after it the caller answers no
+    /// further line.
+    pub fn answer<X: AllocGlobal>(
         &mut self,
         rt: &X,
         line: Option<&[u8]>,
         reply: &mut Vec<u8>,
+        work: &mut Work,
     ) -> Result<(), AllocError>
         requires empty { reply.old.items ≡ [] }
         requires few { self.old.posts < 2 ^ 62 }
         ensures step { OnOk result (line_step self.old.script (line_bytes line.entry) ≡ (self.new.script, reply.new.items)) }
         ensures posts { OnOk result (self.new.posts ≤ self.old.posts + 1) }
+        ensures work { work.old ≤ work.new }
     {
-        self.answer_asked(rt, read_line(line), reply)
+        self.answer_asked(rt, read_line(line), reply, work)
     }
 
     // Puts the answer to a line of this meaning into the reply; before, it opens the ledgers if the line
     // needs them.
-    fn answer_asked<X: AllocGlobal + Threads>(
+    fn answer_asked<X: AllocGlobal>(
         &mut self,
         rt: &X,
         asked: ScriptLine<'_>,
         reply: &mut Vec<u8>,
+        work: &mut Work,
     ) -> Result<(), AllocError>
         requires empty { reply.old.items ≡ [] }
         requires few { self.old.posts < 2 ^ 62 }
         ensures step { OnOk result (step_by self.old.script (meaning_of asked.entry) ≡ (self.new.script, reply.new.items)) }
         ensures posts { OnOk result (self.new.posts ≤ self.old.posts + 1) }
+        ensures work { work.old ≤ work.new }
     {
         self.open_for(rt, &asked)?;
         match &mut self.declared {
             Some(declared) => declared.draft.answer_asked(rt.alloc(), asked, reply),
             None => match &mut self.opened {
-                Some(opened) => opened.answer_asked(asked, reply),
+                Some(opened) => opened.answer_asked(asked, reply, work),
                 None => Err(AllocError),
             },
         }
@@ -120,17 +126,19 @@ impl<J: Naming> ScriptState<J> {
         &mut self,
         sent: SentEvent,
         reply: &mut Vec<u8>,
+        work: &mut Work,
     ) -> Result<(), AllocError>
         requires empty { reply.old.items ≡ [] }
         requires short { HasShortId (asking sent.delivery) }
         requires few { self.old.posts < 2 ^ 62 }
         ensures step { (text : List ℕ) → Asks text sent.delivery → OnOk result (step_by self.old.script (sends sent.station text) ≡ (self.new.script, reply.new.items)) }
         ensures posts { OnOk result (self.new.posts ≤ self.old.posts + 1) }
+        ensures work { work.old ≤ work.new }
     {
         match &self.declared {
             Some(_) => Err(AllocError),
             None => match &mut self.opened {
-                Some(opened) => opened.receive_ahead(sent, reply),
+                Some(opened) => opened.receive_ahead(sent, reply, work),
                 None => Err(AllocError),
             },
         }
@@ -155,17 +163,13 @@ impl<J: Naming> ScriptState<J> {
             opened,
         } = script;
         match opened {
-            Some(opened) => Ok(opened.into_parts()),
+            Some(opened) => opened.into_parts(rt),
             None => Err(AllocError),
         }
     }
 
     // Opens the ledgers, if a line of this meaning needs them.
-    fn open_for<X: AllocGlobal + Threads>(
-        &mut self,
-        rt: &X,
-        asked: &ScriptLine<'_>,
-    ) -> Result<(), AllocError>
+    fn open_for<X: AllocGlobal>(&mut self, rt: &X, asked: &ScriptLine<'_>) -> Result<(), AllocError>
         ensures script { OnOk result (self.new.script ≡ opened_for (meaning_of asked.now) self.old.script) }
         ensures posts { OnOk result (self.new.posts ≡ self.old.posts) }
     {
@@ -178,12 +182,12 @@ impl<J: Naming> ScriptState<J> {
     }
 
     // Opens the ledgers, unless they are.
-    fn open<X: AllocGlobal + Threads>(&mut self, rt: &X) -> Result<(), AllocError>
+    fn open<X: AllocGlobal>(&mut self, rt: &X) -> Result<(), AllocError>
         ensures script { OnOk result (self.new.script ≡ opened_script self.old.script) }
         ensures posts { OnOk result (self.new.posts ≡ self.old.posts) }
     {
         if let Some(Declared { draft, tables }) = self.declared.take() {
-            self.opened = Some(OpenedScript::open(rt, tables, draft)?);
+            self.opened = Some(OpenedScript::open(rt.alloc(), tables, draft)?);
         }
         Ok(())
     }

@@ -2,6 +2,7 @@ ghost use Rattle.std.{specs.Prelude.{ℕ, ◌<◌, ◌≡◌, [], OnOk, OnSome},
 ghost use Rattle.script_replay.specs.Outcome.{IsReplay};
 
 use crate::replay::replay_lines;
+use energy_flow::Work;
 use ledger_model::MAX_SITES;
 use message_ahead::Lookahead;
 use script_lines::ReplayFault;
@@ -62,7 +63,8 @@ fn replay_unflushed<X: AllocGlobal + Threads, R: BufRead, W: Write>(
     match Tables::make(rt.alloc(), MAX_SITES as u16) {
         Ok(tables) => {
             let ahead = Lookahead::new(rt.alloc());
-            replay_lines::<Brand, X, Lookahead, R, W>(rt, tables, ahead, reader, writer)
+            let mut work = Work::open(rt);
+            replay_lines::<Brand, X, Lookahead, R, W>(rt, tables, ahead, reader, writer, &mut work)
         }
         Err(_) => Err(ReplayFault::OutOfMemory),
     }

@@ -7,7 +7,7 @@ pub returns-in-Some-clause-step : goal.returns-in-Some-clause-step
 returns-in-Some-clause-step g c =
     let s = c.args.self.now in
     let detail = c.args.detail in
-    let of = is_of s.draft s.cells.items s.books.items s.passes.items s.running c.args.name.now c.in-Some.number c.station_number.result c.station_number.ensures c.in-Some.is in
+    let of = is_of s.draft s.cells.items s.books.items s.tallies.items s.running c.args.name.now c.in-Some.number c.station_number.result c.station_number.ensures c.in-Some.is in
     let old = script_of s in
     let new = script_of c.answer_message.new.self in
     let m = with_reply c.read_message-asked.result c.read_message-asked.new.reply in
@@ -22,6 +22,6 @@ returns-in-Some-clause-step g c =
 pub returns-in-None-clause-step : goal.returns-in-None-clause-step
 returns-in-None-clause-step g c =
     let s = c.args.self.now in
-    let none = is_none s.draft s.cells.items s.books.items s.passes.items s.running c.args.name.now c.station_number.result c.station_number.ensures c.in-None.is in
+    let none = is_none s.draft s.cells.items s.books.items s.tallies.items s.running c.args.name.now c.station_number.result c.station_number.ensures c.in-None.is in
     written_whole c.put_fault.result (script_of s) _ c.args.reply.now.items c.put_fault.new.reply.items _
     (unreceived c.args.detail (script_of s) c.args.text.now c.args.name.now refl none) c.requires.empty c.put_fault.ensures

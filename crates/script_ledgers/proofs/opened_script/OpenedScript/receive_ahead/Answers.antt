@@ -6,7 +6,7 @@ use Rattle.script_ledgers.proofs.opened_script.OpenedScript.receive_ahead.Goals 
 pub returns-in-Some-clause-step : goal.returns-in-Some-clause-step
 returns-in-Some-clause-step g c = λ text asks.
     let s = c.args.self.now in
-    let of = is_of s.draft s.cells.items s.books.items s.passes.items s.running c.args.sent.station c.in-Some.number c.station_number.result c.station_number.ensures c.in-Some.is in
+    let of = is_of s.draft s.cells.items s.books.items s.tallies.items s.running c.args.sent.station c.in-Some.number c.station_number.result c.station_number.ensures c.in-Some.is in
     let old = script_of s in
     let new = script_of c.deliver.new.self in
     let m = asking c.args.sent.delivery in
@@ -20,5 +20,5 @@ returns-in-Some-clause-step g c = λ text asks.
 pub returns-in-None-clause-step : goal.returns-in-None-clause-step
 returns-in-None-clause-step g c = λ text asks.
     let s = c.args.self.now in
-    let none = is_none s.draft s.cells.items s.books.items s.passes.items s.running c.args.sent.station c.station_number.result c.station_number.ensures c.in-None.is in
+    let none = is_none s.draft s.cells.items s.books.items s.tallies.items s.running c.args.sent.station c.station_number.result c.station_number.ensures c.in-None.is in
     written_whole c.put_fault.result (script_of s) _ c.args.reply.now.items c.put_fault.new.reply.items _ (ap (λ o. sent_to o (script_of s) text) none) c.requires.empty c.put_fault.ensures
