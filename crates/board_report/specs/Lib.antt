@@ -2,6 +2,7 @@ pub mod Boards
 pub mod Closed
 pub mod Lines
 pub mod Listing
+pub mod Looks
 pub mod Named
 pub mod Plans
 pub mod Running

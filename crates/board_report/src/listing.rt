@@ -1,10 +1,11 @@
 //! The texts of a transaction's events and readings, line by line.
-ghost use Rattle.std.{specs.Prelude.{◌≡◌, ◌++◌, All, None, codes, not, OnOk, IfOk}, specs.List.{count_by, flat_map}};
+ghost use Rattle.std.{specs.Prelude.{◌≡◌, ◌+◌, ◌++◌, All, None, codes, not, OnOk, IfOk}, specs.List.{count_by, flat_map}};
 ghost use Rattle.ledger_model.specs.Quarter.{IsQuarterOf};
-ghost use Rattle.board_report.{specs.Listing.{event_line, events_heading, events_text, exact_text, kind_text, part_line, reading_fields, reading_text, readings_behind, readings_heading, readings_text, voided_text}, specs.Texts.flow_fields};
+ghost use Rattle.board_report.{specs.Listing.{event_line, events_heading, events_text, exact_text, kind_text, part_line, reading_fields, reading_text, readings_behind, readings_heading, readings_text, voided_text}, specs.Looks.{listing_looks, pairs_behind, reading_looks}, specs.Texts.flow_fields};
+ghost use Rattle.station_ledger.specs.Quarters.{IsWork};
 
 use crate::write::{order_field, put_field, put_fields, settle_field, start_text};
-use energy_flow::Flow;
+use energy_flow::{Flow, Work, difference};
 use itoa::Buffer;
 use ledger_model::{Kind, Moment, Name, Periods, Quarter, Reading, TxId};
 use reading_decimal::moment_text;
@@ -183,17 +184,19 @@ fn put_parts(
 #[tactic(auto, unfolding(crate::specs::Listing::reading_fields))]
 fn put_level(
     text: &mut Vec<u8>,
-    alloc: Global,
     word: &str,
     shown: &PlacedReading,
+    work: &mut Work,
 ) -> Result<(), AllocError>
-    ensures { OnOk result (text.new.items ≡ text.old.items ++ reading_fields word.now shown.now) }
+    ensures work { IsWork 1 work.old work.new }
+    ensures text { OnOk result (text.new.items ≡ text.old.items ++ reading_fields word.now shown.now) }
 {
     put_field(text, word, u64::from(shown.number))?;
     put_field(text, ".", shown.place as u64)?;
     text.extend_from_slice(b" ")?;
     put_moment(text, shown.reading.moment())?;
-    put_field(text, " ", shown.reading.level().shown(alloc))
+    text.extend_from_slice(b" ")?;
+    shown.reading.level().write(text, work)
 }
 
 // Appends the line of a reading, with what it and the one before show, and the lines of the parts of that.
@@ -205,19 +208,21 @@ fn put_reading(
     period: Periods,
     before: Option<Reading>,
     shown: &PlacedReading,
+    work: &mut Work,
 ) -> Result<(), AllocError>
-    ensures { OnOk result (text.new.items ≡ text.old.items ++ reading_text word.now period before shown.now) }
+    ensures work { IsWork (1 + pairs_behind before 1) work.old work.new }
+    ensures text { OnOk result (text.new.items ≡ text.old.items ++ reading_text word.now period before shown.now) }
 {
-    put_level(text, alloc, word, shown)?;
+    put_level(text, word, shown, work)?;
     let Some(before) = before else {
         text.push(b'\n')?;
         return Ok(());
     };
     let reading = shown.reading;
-    let flow = Flow::between(before.level().shown(alloc), reading.level().shown(alloc));
+    let flow = difference(before.level(), reading.level(), work);
     put_flow(text, flow)?;
     text.push(b'\n')?;
-    let parts = parts_between(alloc, period, before, reading)?;
+    let parts = parts_between(alloc, period, before, reading, flow)?;
     put_parts(text, period, &parts)
 }
 
@@ -228,13 +233,15 @@ fn put_readings(
     word: &str,
     period: Periods,
     readings: &[PlacedReading],
+    work: &mut Work,
 ) -> Result<(), AllocError>
-    ensures { OnOk result (text.new.items ≡ text.old.items ++ readings_behind word.now period None readings.now) }
+    ensures work { IsWork (reading_looks readings.now) work.old work.new }
+    ensures text { OnOk result (text.new.items ≡ text.old.items ++ readings_behind word.now period None readings.now) }
 {
     let mut before = None;
     let mut left = readings;
     while let [first, more @ ..] = left {
-        put_reading(text, alloc, word, period, before, first)?;
+        put_reading(text, alloc, word, period, before, first, work)?;
         before = Some(first.reading);
         left = more;
     }
@@ -262,15 +269,18 @@ fn put_readings_heading(
 /// The text of a list of a transaction's live readings: a heading with its energies; the readings of the import
 /// register, in the site's order; those of the export register; and `end`. A reading's line has the number of its event,
 /// its place there, its moment and its level. Behind the first of a register it has, too, what the register rose and
-/// fell since the one before, and a line for each part of that follows it. Each line ends with a line feed. The error
-/// says that the allocator refused memory.
+/// fell since the one before, and a line for each part of that follows it. Each line ends with a line feed. `work` counts
+/// each look at a level, also before the error: at most one for each reading and one for each pair. The error says that
+/// the allocator refused memory.
 pub fn write_readings(
     alloc: Global,
     name: &Name,
     tx: &TxId,
     listing: &TxListing,
+    work: &mut Work,
 ) -> Result<Vec<u8>, AllocError>
-    ensures { IfOk result (λ text. text.items ≡ readings_text name.now tx.now listing.now) }
+    ensures work { IsWork (listing_looks listing.now) work.old work.new }
+    ensures text { IfOk result (λ text. text.items ≡ readings_text name.now tx.now listing.now) }
 {
     let mut text = Vec::new(alloc);
     let period = listing.period;
@@ -281,6 +291,7 @@ pub fn write_readings(
         "import ",
         period,
         listing.imported.as_slice(),
+        work,
     )?;
     put_readings(
         &mut text,
@@ -288,6 +299,7 @@ pub fn write_readings(
         "export ",
         period,
         listing.exported.as_slice(),
+        work,
     )?;
     text.extend_from_slice(b"end\n")?;
     Ok(text)

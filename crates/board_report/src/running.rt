@@ -1,11 +1,13 @@
 //! The board of a site of a running desk.
 ghost use Rattle.std.specs.Prelude.{◌≡◌, ◌<◌, ◌≤◌, IfOk, length, map, sum_by};
 ghost use Rattle.ledger_model.{specs.Board.sum_of_figures, specs.Ranges.most_plan_readings};
-ghost use Rattle.site_desk.specs.Roster.{AreNewPlaces};
+ghost use Rattle.site_desk.{specs.Operator.site_looks, specs.Roster.AreNewPlaces};
+ghost use Rattle.station_ledger.specs.Quarters.{IsWork};
 ghost use Rattle.board_report.{specs.Running.{AreBoardsOfPlan, IsRunningBoard, running_site}, specs.Texts.board_text};
 
 use crate::board::site_board;
 use crate::write::write_board;
+use energy_flow::Work;
 use ledger_model::{Figures, Name};
 use site_book::Naming;
 use site_desk::{BoardFault, Desk, HasCell, Plan};
@@ -15,8 +17,8 @@ use std::sync::Wait;
 
 /// The text of the board of the site of this number at one moment, while the desk takes commands: each of its stations'
 /// boards from scratch from the content of its ledger, in the plan's order, and the sums over them. It waits for the
-/// locks of these stations and of the site's book. Errors: `OutOfMemory`, and `Torn` if cells and book don't fit
-/// together, which no run meets.
+/// locks of these stations and of the site's book. `work` counts the looks that the boards take. Errors: `OutOfMemory`,
+/// and `Torn` if cells and book don't fit together, which no run meets.
 ///
 /// Condition: the desk was opened for this plan, the plan has the site, and its limits allow no more than 1,048,576
 /// readings in all.
@@ -26,13 +28,15 @@ pub fn running_board<J: Naming, C: HasCell, R: Wait>(
     plan: &Plan,
     desk: &Desk<J, C>,
     site: u16,
+    work: &mut Work,
 ) -> Result<Vec<u8>, BoardFault>
     requires opened { AreNewPlaces plan.now.sites.items plan.now.stations.items desk.now.stations }
     requires readings { sum_by (λ s. s.limits.readings) plan.now.stations.items ≤ most_plan_readings }
     requires planned { site < length plan.now.sites.items }
-    ensures { IfOk result (λ text. IsRunningBoard plan.now.sites.items desk.now.stations site text.items) }
+    ensures work { IsWork (site_looks desk.now.stations site) work.old work.new }
+    ensures text { IfOk result (λ text. IsRunningBoard plan.now.sites.items desk.now.stations site text.items) }
 {
-    let (boards, totals) = match desk.site_boards(rt, alloc, site) {
+    let (boards, totals) = match desk.site_boards(rt, alloc, site, work) {
         Ok(shown) => shown,
         Err(fault) => return Err(fault),
     };

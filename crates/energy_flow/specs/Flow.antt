@@ -1,4 +1,4 @@
-use Rattle.std.specs.Prelude.{ℕ, ℤ, pos, ◌+◌, ◌-◌, ◌-ℤ◌, ◌<◌, ◌≤◌, ◌^◌}
+use Rattle.std.specs.Prelude.{ℕ, ℤ, pos, ◌+◌, ◌-◌, ◌*◌, ◌/◌, ◌-ℤ◌, ◌<◌, ◌≤◌, ◌^◌}
 
 -- Energy that a register rose by and fell by, in milliwatt-hours, added up separately.
 pub record Energy : Type 0 where
@@ -20,6 +20,10 @@ plus a b = record { up = a.up + b.up; down = a.down + b.down }
 -- The first without the second, field by field.
 abbrev pub minus : Energy → Energy → Energy
 minus a b = record { up = a.up - b.up; down = a.down - b.down }
+
+-- A part of a whole of it: each field times the part over the whole, rounded down.
+abbrev pub share_of : Energy → ℕ → ℕ → Energy
+share_of e part whole = record { up = e.up * part / whole; down = e.down * part / whole }
 
 -- Up less down.
 abbrev pub net : Energy → ℤ

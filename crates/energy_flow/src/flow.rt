@@ -1,8 +1,7 @@
-ghost use Rattle.std.specs.Prelude.{◌≡◌, ◌≤◌, ◌↔◌, IsTrue};
-ghost use Rattle.energy_flow.{specs.Flow.{no_energy, plus, minus, net, difference_of, CanPlus, CanMinus}, specs.Work.counted};
+ghost use Rattle.std.specs.Prelude.{◌≡◌, ◌<◌, ◌≤◌, ◌*◌, ◌^◌, ◌↔◌, IsTrue};
+ghost use Rattle.energy_flow.{specs.Flow.{no_energy, plus, minus, net, difference_of, share_of, CanPlus, CanMinus}, specs.Work.counted};
 
-use crate::Work;
-use std::alloc::Global;
+use crate::{Level, Work};
 use std::marker::Model;
 
 /// Energy that a register rose by and fell by, in milliwatt-hours, each below 2^64.
@@ -30,8 +29,8 @@ impl Flow {
         Flow { up: 0, down: 0 }
     }
 
-    /// The rise or the fall from one number of milliwatt-hours to another.
-    pub fn between(earlier: u64, later: u64) -> Self
+    // The rise or the fall from one number of milliwatt-hours to another.
+    fn between(earlier: u64, later: u64) -> Self
         ensures { result ≡ difference_of earlier later }
     {
         Flow {
@@ -96,44 +95,25 @@ impl Flow {
             down: self.down - other.down,
         }
     }
-}
 
-/// What an energy register showed, in milliwatt-hours. Two levels can be compared for equality;
-/// without an allocator only [`difference`] looks into them.
-#[derive(Clone, Copy, PartialEq, Eq)]
-pub struct Level {
-    mwh: u64,
-}
-
-impl Model for Level {
-    ghost use Rattle.std.specs.Prelude.{ℕ};
-
-    ghost Value = { ℕ };
-
-    ghost view = { λ l. l.mwh };
-
-    ghost inverse = { λ n. record { mwh = n } };
-}
-
-impl Level {
-    /// The level of this many milliwatt-hours.
-    pub fn new(mwh: u64) -> Self
-        ensures { result ≡ mwh }
+    /// `part` of `whole` equal shares of this flow, field by field and rounded down. Before it is divided, each field
+    /// times `part` stays below 2^64.
+    pub fn share(self, part: u64, whole: u64) -> Self
+        requires within { part ≤ whole }
+        requires some { 0 < whole }
+        requires up { self.up * part < 2 ^ 64 }
+        requires down { self.down * part < 2 ^ 64 }
+        ensures { result ≡ share_of self part whole }
     {
-        Level { mwh }
-    }
-
-    /// What the register showed, in milliwatt-hours. It asks for the allocator, which it does not use: a board has one,
-    /// and a change has none, so a change can compare levels by [`difference`] alone.
-    pub fn shown(self, _alloc: Global) -> u64
-        ensures { result ≡ self }
-    {
-        self.mwh
+        Flow {
+            up: self.up * part / whole,
+            down: self.down * part / whole,
+        }
     }
 }
 
-/// The rise or the fall from the earlier to the later of two levels of one register. Counts one
-/// comparison in `work`.
+/// The rise or the fall from the earlier to the later of two levels of one register. Counts one look in
+/// `work`.
 pub fn difference(earlier: Level, later: Level, work: &mut Work) -> Flow
     ensures flow { result ≡ difference_of earlier later }
     ensures work { work.new ≡ counted work.old 1 }
@@ -160,6 +140,7 @@ mod tests {
         assert_eq!(rt; work.count(), 2);
         assert!(rt; rise.can_plus(fall) && !rise.can_minus(fall));
         assert!(rt; rise.plus(fall).minus(fall) == rise);
+        assert!(rt; rise.share(1, 3).up() == 200_000 && fall.share(2, 3).down() == 1_000_000);
         assert_eq!(rt; Flow::zero().net(), 0);
     }
 }

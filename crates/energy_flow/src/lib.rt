@@ -1,13 +1,14 @@
-//! Energy as flows between register levels, and the count of comparisons that made them.
+//! Energy as flows between register levels, and the count of looks at levels.
 //!
 //! An energy register shows only levels. Energy is the difference of two of them: a [`Flow`], with
-//! rises and falls added up separately, in milliwatt-hours. Only [`difference`] looks into a
-//! [`Level`], and only it makes a flow other than zero. It counts itself in the [`Work`] that its
-//! caller lends it. So a function that is lent no `Work` can only add up differences that were
-//! counted before.
+//! rises and falls added up separately, in milliwatt-hours. Only [`difference`] and [`Level::write`] look into a
+//! [`Level`]: the one gives a flow, the other appends digits to a text. Each counts itself in the [`Work`] that its
+//! caller lends it. Every flow but zero is made of flows that `difference` gave: by [`Flow::plus`], [`Flow::minus`] and
+//! [`Flow::share`]. So a function that is lent no `Work` looks at no level, and gives no energy that was not counted
+//! before. What remains without a count is whether two levels are the same.
 //!
-//! The crate's contract: `difference` gives the rise and the fall, and counts one; [`Flow::plus`]
-//! and [`Flow::minus`] go field by field; [`Flow::net`] is up less down.
+//! The crate's contract: `difference` gives the rise and the fall, and counts one; `write` appends the decimal digits,
+//! and counts one; [`Flow::plus`], [`Flow::minus`] and [`Flow::share`] go field by field; [`Flow::net`] is up less down.
 //!
 //! ```text
 //! let flow = difference(Level::new(1_000), Level::new(1_600), &mut work);
@@ -16,7 +17,9 @@
 #![tactic(auto)]
 
 mod flow;
+mod level;
 mod work;
 
-pub use flow::{Flow, Level, difference};
+pub use flow::{Flow, difference};
+pub use level::Level;
 pub use work::Work;

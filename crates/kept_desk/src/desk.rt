@@ -1,7 +1,8 @@
 ghost use Rattle.std.{specs.Prelude.{◌≡◌, ◌≢◌, ℕ, [], All, length, map, IfOk, IfErr, None, Some, slice_get}, specs.Io.Buffered.{writer_buffer, writer_inner}};
 ghost use Rattle.kept_desk.{specs.Entries.{IsNote, bytes_of, entry}, specs.Kept.{AreBoardsBehind, IsReceived, IsWrittenDown}, specs.Opened.{AreFirst, AreNames}, specs.Speaking.SpeaksOf};
 ghost use Rattle.ledger_model.{specs.declared.answer.Answer.Answer, specs.declared.answer.Refusal.Refusal, specs.Board.sum_of_figures};
-ghost use Rattle.site_desk.{specs.declared.fault.CloseFault.CloseFault, specs.declared.roster.StationPlace.StationPlace, specs.Close.{IsClosable, Saw}, specs.Plan.plan_fault, specs.Roster.AreNewPlaces, specs.Submit.{IsUnchanged, Submitted}, specs.Operator.AreBoardsAt};
+ghost use Rattle.site_desk.{specs.declared.fault.CloseFault.CloseFault, specs.declared.roster.StationPlace.StationPlace, specs.Close.{IsClosable, Saw}, specs.Plan.plan_fault, specs.Roster.AreNewPlaces, specs.Submit.{IsUnchanged, Submitted}, specs.Operator.{AreBoardsAt, site_looks}};
+ghost use Rattle.station_ledger.specs.Quarters.{IsWork};
 
 use crate::at_moment::AtMoment;
 use crate::cell::KeptCell;
@@ -13,6 +14,7 @@ use crate::line::Line;
 use crate::moment::Moment;
 use crate::opening::Opening;
 use crate::way::Journalled;
+use energy_flow::Work;
 use ledger_model::{Answer, Command, Figures, Name};
 use site_book::{Naming, Told, Viewer};
 use site_desk::{BoardFault, CloseRefused, Closed, Desk, Gate, Parts, Pass, Plan, StationCell};
@@ -101,19 +103,21 @@ impl<J: Naming, K: Opening, W: Write + Drop> KeptDesk<J, K, W> {
     /// The boards of a site as [`Desk::site_boards`] gives them, and the moment of the journal that they show: each
     /// board is that of the content that its station's entries at that moment lead to. The call takes the journal's
     /// lock while it holds those of the site, and gives it back before it makes the boards. Errors are those of
-    /// [`Desk::site_boards`].
+    /// [`Desk::site_boards`], and `work` counts what it counts there.
     pub fn site_boards<R: Wait>(
         &self,
         rt: &R,
         alloc: Global,
         site: u16,
+        work: &mut Work,
     ) -> Result<(Vec<(Name, StationBoard)>, Figures, Moment<K>), BoardFault>
+        ensures work { IsWork (site_looks self.now.stations site) work.old work.new }
         ensures boards { IfOk result (λ r. AreBoardsAt self.now.stations site r.0.items) }
         ensures behind { IfOk result (λ r. AreBoardsBehind K.first self.now.stations site r.0.items r.2) }
         ensures totals { IfOk result (λ r. r.1 ≡ sum_of_figures (map (λ s. s.1.figures) r.0.items)) }
     {
         let way = AtMoment { log: &self.log };
-        self.desk.site_boards_by(rt, alloc, site, &way)
+        self.desk.site_boards_by(rt, alloc, site, &way, work)
     }
 
     /// Returns whether a line could not be written whole; the journal then takes no more. It waits

@@ -6,5 +6,6 @@ pub mod Orders
 pub mod Parts
 pub mod Places
 pub mod Replaced
+pub mod Coming
 pub mod Held
 pub mod Several

@@ -8,7 +8,8 @@
 //! behind it: none if periods come in the order of time.
 //!
 //! A board of a site that settles evenly shares what two readings show by time ([`even_parts`]), and makes a table of these
-//! parts ([`QuarterTable::try_share`]), whose rows count parts in place of pairs.
+//! parts ([`QuarterTable::try_share`]), whose rows count parts in place of pairs. Each of these calls looks once at the two
+//! levels and counts it. Who knows the difference already shares it without a look ([`share_evenly`]).
 //!
 //! The crate's contract: after some pairs were added and others removed, in any order, the rows are
 //! those of the pairs that are left, each with their number and their sum. [`laws`] says so of
@@ -33,5 +34,5 @@ mod shares;
 mod table;
 
 pub use row::QuarterRow;
-pub use shares::even_parts;
+pub use shares::{even_parts, share_evenly};
 pub use table::QuarterTable;

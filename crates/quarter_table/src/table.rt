@@ -1,11 +1,12 @@
-ghost use Rattle.std.specs.Prelude.{◌≡◌, ◌↔◌, ◌<◌, ◌+◌, ◌^◌, [], IfErr, IfOk, IsTrue, length};
+ghost use Rattle.std.specs.Prelude.{◌≡◌, ◌↔◌, ◌<◌, ◌≤◌, ◌+◌, ◌^◌, [], IfErr, IfOk, IsTrue, length};
+ghost use Rattle.energy_flow.specs.Work.{counted};
 ghost use Rattle.ledger_model.{specs.ByDirection.{flows_toward, CanPlusFlows, CanMinusFlows}, specs.Energy.change_of, specs.Parts.parts_by, specs.declared.settle.Settle.Settle};
 ghost use Rattle.quarter_table.{specs.Pairs.{parts_toward, rows_with}, specs.Rows.{row_at, with_pair, without_pair, set_row, AreInOrder, HavePairs}, specs.Table.table};
 
 use crate::place::place_near;
 use crate::row::QuarterRow;
 use crate::shares::even_parts;
-use energy_flow::Flow;
+use energy_flow::{Flow, Work};
 use ledger_model::{ByDirection, Direction, Period, Quarter, Reading};
 use std::alloc::{AllocError, Global};
 use std::marker::Model;
@@ -140,7 +141,8 @@ impl QuarterTable {
     }
 
     /// Adds what two readings of this direction show, shared by time among periods of this length. After an error, that
-    /// there is no memory or that a number or a sum would be out of range, the table has a part of it.
+    /// there is no memory or that a number or a sum would be out of range, the table has a part of it. Counts one look
+    /// in `work`, also before an error.
     pub fn try_share(
         &mut self,
         alloc: Global,
@@ -148,10 +150,13 @@ impl QuarterTable {
         direction: Direction,
         earlier: Reading,
         later: Reading,
+        work: &mut Work,
     ) -> Result<(), AllocError>
-        ensures { IfOk result (λ _. self.new.rows ≡ rows_with (parts_toward direction (parts_by Settle.Even length (change_of (earlier, later)))) self.old.rows) }
+        ensures rows { IfOk result (λ _. self.new.rows ≡ rows_with (parts_toward direction (parts_by Settle.Even length (change_of (earlier, later)))) self.old.rows) }
+        ensures work { work.new ≡ counted work.old 1 }
+        ensures grows { work.old ≤ work.new }
     {
-        let parts = even_parts(alloc, length, earlier, later)?;
+        let parts = even_parts(alloc, length, earlier, later, work)?;
         for part in &parts {
             self.try_add(part.0, direction, part.1)?;
         }

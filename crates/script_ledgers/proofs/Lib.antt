@@ -8,3 +8,5 @@ pub mod Opened
 pub mod Parted
 pub mod Named
 pub mod Boards
+pub mod Told
+pub mod Passes

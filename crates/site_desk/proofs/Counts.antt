@@ -1,7 +1,7 @@
 -- The counts of a cell's passes.
 use Rattle.std.{proofs.Common.{◌≡◌, ℕ, suc, ◌+◌, ◌≤◌, List, get_or, set, sum, Some, ap, sym, ◌∙◌, subst, arith, length-set}, specs.Prelude.slice_get, proofs.lemmas.List.Sums.{sum_by-set, get_or-le-sum_by}, proofs.lemmas.Option.{slice_get_within, get_or_from_slice_get}}
 use Rattle.ledger_model.{specs.declared.answer.Answer.TheVariants.Accepted, specs.declared.command.Command.Command, specs.Limits.Bounds, specs.Content.Content, specs.Laws.IsAccepted, specs.Step.{answer, step, content_after, Reached}, proofs.Callers.is_counted}
-use Rattle.site_desk.specs.Cell.{Cell, Held, Knows, IsCell, most_passes}
+use Rattle.site_desk.specs.Cell.{Cell, Tallied, Knows, IsCell, most_passes}
 
 module _ (counts : List ℕ) (slot changes : ℕ) (at : slice_get counts slot ≡ Some changes) where
   -- the count that is read
@@ -22,8 +22,8 @@ module _ (counts : List ℕ) (slot changes : ℕ) (at : slice_get counts slot �
       let had = get_or_from_slice_get counts slot changes 0 at in
       omega (arith, more, had)
 
--- what is known of a cell and a pass, by their parts
-pub count_at : (c c' : Cell) (p p' : Held) → c' ≡ c → p' ≡ p → Knows c p → slice_get c'.counts p'.slot ≡ Some p'.changes
+-- what is known of a cell and a tally, by their parts
+pub count_at : (c c' : Cell) (p p' : Tallied) → c' ≡ c → p' ≡ p → Knows c p → slice_get c'.counts p'.slot ≡ Some p'.changes
 count_at c c' p p' cells passes knows = rw (cells, passes) knows.count
 
 -- an accepted command is one change more

@@ -9,5 +9,6 @@ pub mod Callers
 pub mod Submits
 pub mod Comparisons
 pub mod Ends
+pub mod Looks
 pub mod Operators
 pub mod Posted

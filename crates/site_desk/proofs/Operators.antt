@@ -14,7 +14,7 @@ boards_push (q ∷ places) p [] b all is = absurd all
 boards_push (q ∷ places) p (c ∷ boards) b all is = (all.0, boards_push places p boards b all.1 is)
 
 -- the places of a site, with one place more
-at_more : (places : List StationPlace) (site k : ℕ) (p : StationPlace) → k < length places → p ≡ get_or places k p
+pub at_more : (places : List StationPlace) (site k : ℕ) (p : StationPlace) → k < length places → p ≡ get_or places k p
     → filter (λ (q : StationPlace). eqb q.site site) (take (k + 1) places) ≡ filter (λ (q : StationPlace). eqb q.site site) (take k places) ++ cond (eqb p.site site) (p ∷ []) []
 at_more places site k p less is =
     ap (λ ps. filter (λ (q : StationPlace). eqb q.site site) ps) (take_more places k p less ∙ ap (λ q. take k places ++ q ∷ []) (sym is))

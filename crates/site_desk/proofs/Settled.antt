@@ -3,7 +3,7 @@ use Rattle.std.proofs.Common.{◌≡◌, ◌≢◌, ℕ, ◌+◌, List, [], ◌�
 use Rattle.ledger_model.{specs.declared.answer.Answer.Answer, specs.declared.answer.Answer.TheVariants.{Accepted, Repeat, Refused}, specs.declared.command.Command.Command, specs.declared.figures.Figures.Figures, specs.declared.order.Order.Order, specs.Board.figures_by, specs.Content.{Content, entries}, specs.Posts.row_after, specs.Step.{answer, step, content_after}, proofs.PostLemmas.{row-push_same, row-push_other}, specs.Limits.Bounds}
 use Rattle.station_ledger.{specs.Judged.IsJudged, specs.Ledger.Ledger}
 use Rattle.site_book.{specs.Book.Book, proofs.Named.get_here}
-use Rattle.site_desk.{specs.Cell.{Cell, Held, Knows}, specs.Settle.{Tied, cell_after, counts_after, pass_after, posts_after}}
+use Rattle.site_desk.{specs.Cell.{Cell, Held, Knows, tally_of}, specs.Settle.{Tied, cell_after, counts_after, pass_after, posts_after}}
 
 -- a judgement by a cell's ledger is one by the cell
 pub judged_here : (limits limits' : Bounds) (content content' : Content) (command : Command) (a : Answer) → limits ≡ limits'
@@ -29,17 +29,17 @@ book_posted b b' c a n row f posted rows shown is =
     posted ∙ (λ i. record b { posts = b.posts ++ (rows i, shown i) ∷ [] }) ∙ (λ i. record b { posts = posts_after b.posts c (sym is i) })
 
 -- the pass stays known
-known_by : (c : Cell) (p : Held) (command : Command) (a : Answer) (work : ℕ) → Knows c p
-    → Knows (record c { content = content_after c.content command a; counts = counts_after c.counts p a }) (pass_after p a work)
+known_by : (c : Cell) (p : Held) (command : Command) (a : Answer) (work : ℕ) → Knows c (tally_of p)
+    → Knows (record c { content = content_after c.content command a; counts = counts_after c.counts p a }) (tally_of (pass_after p a work))
 known_by c p command (Accepted n) work k = record { station = k.station; count = get_here c.counts p.slot p.changes (p.changes + 1) k.count }
 known_by c p command Repeat work k = record { station = k.station; count = k.count }
 known_by c p command (Refused why) work k = record { station = k.station; count = k.count }
 
 pub known_after : (c c' : Cell) (p p' : Held) (command : Command) (a : Answer) → c' ≡ cell_after c p command
-    → p' ≡ pass_after p a p'.work → a ≡ answer c.limits c.content command → Knows c p → Knows c' p'
+    → p' ≡ pass_after p a p'.work → a ≡ answer c.limits c.content command → Knows c (tally_of p) → Knows c' (tally_of p')
 known_after c c' p p' command a cells passes is k =
     let known = known_by c p command (answer c.limits c.content command) p'.work k in
-    subst (λ d. Knows d p') (sym cells) (subst (Knows (cell_after c p command)) (sym (passes ∙ ap (λ x. pass_after p x p'.work) is)) known)
+    subst (λ d. Knows d (tally_of p')) (sym cells) (subst (λ q. Knows (cell_after c p command) (tally_of q)) (sym (passes ∙ ap (λ x. pass_after p x p'.work) is)) known)
 
 -- the row stays tied
 tied_by : (c : Cell) (b : Book) (content : Content) (counts : List ℕ) (command : Command) (a : Answer) → content ≡ content_after c.content command a → Tied c b

@@ -2,11 +2,11 @@
 use Rattle.std.{proofs.Common.{◌≡◌, ℕ, ◌+◌, ◌≤◌, [], ◌∷◌, ◌++◌, sum, get_or, List, None, Some, Ok, Err, ap, sym, ◌∙◌, subst, arith}, specs.Prelude.{Option, Result, IfOk}, proofs.lemmas.Option.get_or_from_slice_get}
 use Rattle.ledger_model.{specs.Periods.Periods, specs.declared.answer.Answer.Answer, specs.declared.answer.Answer.TheVariants.{Accepted, Repeat, Refused}, specs.declared.answer.Refusal.TheVariants.{ConflictingEvent, TooManyTransactions, EventsFull, ReadingsFull, NoSuchEvent, AlreadyVoided, NotVoided, ChangesExhausted}, specs.declared.command.Command.Command, specs.declared.order.Order.Order, specs.Board.{Board, board_by, figures_by}, specs.Content.{Content, entries}, specs.Laws.IsAccepted, specs.Limits.Bounds, specs.Posts.row_after, specs.Step.{Reached, answer, step}}
 use Rattle.site_book.specs.Book.{Book, Known, known}
-use Rattle.site_desk.{specs.declared.roster.StationPlace.StationPlace, specs.Roster.{IsNamed, StandsAt}, specs.Submit.{IsAnswered, IsBoardOfName, IsBoardWithin, IsTaken, IsTakenAt, Submitted, TellsOf}, specs.Cell.{Cell, Held, Knows}, specs.Settle.{Tied, cell_after, pass_after, posts_after, told_after}, proofs.Counts.{count_part, next_number}}
+use Rattle.site_desk.{specs.declared.roster.StationPlace.StationPlace, specs.Roster.{IsNamed, StandsAt}, specs.Submit.{IsAnswered, IsBoardOfName, IsBoardWithin, IsTaken, IsTakenAt, Submitted, TellsOf}, specs.Cell.{Cell, Held, Knows, tally_of}, specs.Settle.{Tied, cell_after, pass_after, posts_after, told_after}, proofs.Counts.{count_part, next_number}}
 use Rattle.station_ledger.specs.Spent.{most_spent}
 
 module _ (at : StationPlace) (number : ℕ) (c : Cell) (b : Book) (p : Held) (command : Command) (stands : StandsAt number at c) (site : b.site ≡ at.site)
-    (reached : Reached c.limits c.content.changes c.content) (counted : sum c.counts ≡ c.content.changes) (knows : Knows c p) where
+    (reached : Reached c.limits c.content.changes c.content) (counted : sum c.counts ≡ c.content.changes) (knows : Knows c (tally_of p)) where
   -- at the place's limits
   reached_here : Reached at.limits c.content.changes c.content
   reached_here = subst (λ l. Reached l c.content.changes c.content) stands.limits reached

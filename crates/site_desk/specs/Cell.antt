@@ -20,13 +20,28 @@ pub record Cell : Type 0 where
   pub content : Content
   pub counts : List ℕ
 
--- A pass: its station's number, its place among that station's passes, how many changes it made, and how many
--- differences of readings were evaluated for it.
+-- A pass: its station's number, its place among that station's passes, how many changes it made, and how many looks at
+-- levels its commands took.
 pub record Held : Type 0 where
   pub station : ℕ
   pub slot : ℕ
   pub changes : ℕ
   pub work : ℕ
+
+-- The count of a pass at its station's cell: the station's number, the pass's place among that station's passes, and how
+-- many changes it made.
+pub record Tallied : Type 0 where
+  pub station : ℕ
+  pub slot : ℕ
+  pub changes : ℕ
+
+-- The pass of a tally, with so many looks.
+abbrev pub held : Tallied → ℕ → Held
+held t work = record { station = t.station; slot = t.slot; changes = t.changes; work = work }
+
+-- The tally of a pass.
+abbrev pub tally_of : Held → Tallied
+tally_of p = record { station = p.station; slot = p.slot; changes = p.changes }
 
 -- The number of no station, which a cell out of service has.
 abbrev pub no_station : ℕ
@@ -49,14 +64,18 @@ cell_code =
 abbrev pub new_cell : ℕ → ℕ → ℕ → Bounds → Periods → Order → Cell
 new_cell station site row limits period order = record { station = station; site = site; row = row; limits = limits; period = period; order = order; content = empty_content; counts = [] }
 
+-- A tally that counts no change yet.
+abbrev pub new_tally : ℕ → ℕ → Tallied
+new_tally station slot = record { station = station; slot = slot; changes = 0 }
+
 -- A pass that made no change yet.
 abbrev pub new_pass : ℕ → ℕ → Held
 new_pass station slot = record { station = station; slot = slot; changes = 0; work = 0 }
 
--- The pass belongs to the cell, and the cell counts as many changes for it as it made.
-pub record Knows (c : Cell) (p : Held) : Type 0 where
-  pub station : p.station ≡ c.station
-  pub count : slice_get c.counts p.slot ≡ Some p.changes
+-- The tally is one of the cell's, and the cell counts as many changes for it.
+pub record Knows (c : Cell) (t : Tallied) : Type 0 where
+  pub station : t.station ≡ c.station
+  pub count : slice_get c.counts t.slot ≡ Some t.changes
 
 -- What a cell keeps: as many accepted commands as its passes made lead from the empty content to
 -- its own; there is room for all its passes.

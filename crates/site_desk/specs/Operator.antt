@@ -1,9 +1,9 @@
 -- The parts of a running desk that an operator reads.
-use Rattle.std.specs.Prelude.{◌≡◌, ℕ, ◌==◌, ⊤, List, [], ◌∷◌, count_by, filter, take, Some, slice_get}
+use Rattle.std.{specs.Prelude.{◌≡◌, ℕ, ◌==◌, ⊤, List, [], ◌∷◌, count_by, filter, sum_by, take, Some, slice_get}, specs.Str.bytes_eq}
 use Rattle.energy_flow.specs.Flow.{Energy}
 use Rattle.ledger_model.{specs.declared.figures.Figures.Figures, specs.declared.order.Order.Order, specs.Board.{Board, board_by, figures_by}, specs.declared.reading.Direction.TheVariants.{Import, Export}, specs.Energy.energy_by, specs.Content.{Content, entries}, specs.Figures.AreWithin, specs.Limits.Bounds, specs.Periods.Periods, specs.Step.Reached}
 use Rattle.site_desk.{specs.declared.roster.StationPlace.StationPlace, specs.Roster.{IsNamed, StandsAt}, specs.Submit.IsBoardWithin, specs.Cell.Cell}
-use Rattle.station_ledger.{specs.Listing.listing_by, specs.declared.listing.TxListing.TxListing}
+use Rattle.station_ledger.{specs.Listing.listing_by, specs.Looks.looks_within, specs.declared.listing.TxListing.TxListing}
 
 -- Some content that accepted commands reach under these limits has these figures and these imported
 -- and exported energies, in this order of readings.
@@ -34,6 +34,18 @@ pub record IsListingOfName (places : List StationPlace) (name tx : List ℕ) (l 
   pub number : ℕ
   pub named : IsNamed places name number
   pub listing : IsListingWithin named.place.limits named.place.order named.place.period tx l
+
+-- The most looks that the board of the station of this place takes, by its settlement periods and its limits.
+abbrev pub place_looks : StationPlace → ℕ
+place_looks p = looks_within p.period.rule p.limits.readings
+
+-- The most looks that the board of the station of this name takes.
+abbrev pub named_looks : List StationPlace → List ℕ → ℕ
+named_looks places name = sum_by place_looks (filter (λ p. bytes_eq name p.name) places)
+
+-- The most looks that the boards of the stations of the site of this number take: the sum over them.
+abbrev pub site_looks : List StationPlace → ℕ → ℕ
+site_looks places site = sum_by place_looks (filter (λ p. p.site == site) places)
 
 -- The board of the station of this place, under its name: it is the board of some content that
 -- accepted commands reach under the place's limits, by the place's period and order.

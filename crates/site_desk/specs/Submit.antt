@@ -1,7 +1,7 @@
 use Rattle.std.specs.Prelude.{◌≡◌, ℕ, suc, ◌+◌, ◌<◌, ◌≤◌, ◌^◌, List, [], ◌∷◌, ◌++◌, length, sum, Option, None, Some}
 use Rattle.ledger_model.{specs.Periods.Periods, specs.declared.answer.Answer.Answer, specs.declared.answer.Answer.TheVariants.{Accepted, Repeat, Refused}, specs.declared.answer.Refusal.TheVariants.{ConflictingEvent, TooManyTransactions, EventsFull, ReadingsFull, NoSuchEvent, AlreadyVoided, NotVoided, ChangesExhausted}, specs.declared.command.Command.Command, specs.declared.order.Order.Order, specs.Board.{Board, board_by, figures_by}, specs.Content.{Content, entries}, specs.Limits.Bounds, specs.Posts.{Post, row_after}, specs.Step.{Reached, answer, step}}
 use Rattle.site_book.specs.Book.{Book, Known, known}
-use Rattle.site_desk.{specs.declared.roster.StationPlace.StationPlace, specs.Roster.{IsNamed, StandsAt}, specs.Cell.{Cell, Held, IsInService, Knows}, specs.Settle.{Holds, Tied}}
+use Rattle.site_desk.{specs.declared.roster.StationPlace.StationPlace, specs.Roster.{IsNamed, StandsAt}, specs.Cell.{Cell, Held, IsInService, Knows, tally_of}, specs.Settle.{Holds, Tied}}
 use Rattle.station_ledger.specs.Spent.{most_spent}
 
 -- The command is accepted as change n at this content. The station's row showed the figures of this content, and those
@@ -49,7 +49,7 @@ pub record IsAnswered (at : StationPlace) (p : Held) (command : Command) (told_a
 pub record CanJudge (number : ℕ) (at : StationPlace) (c : Cell) (p : Held) : Type 0 where
   pub serves : IsInService c
   pub stands : StandsAt number at c
-  pub knows : Knows c p
+  pub knows : Knows c (tally_of p)
   pub reached : Reached c.limits c.content.changes c.content
   pub counted : sum c.counts ≡ c.content.changes
 
@@ -58,7 +58,7 @@ pub record CanJudge (number : ℕ) (at : StationPlace) (c : Cell) (p : Held) : T
 pub record CanSettle (number : ℕ) (at : StationPlace) (c : Cell) (b : Book) (p : Held) : Type 0 where
   pub stands : StandsAt number at c
   pub site : b.site ≡ at.site
-  pub knows : Knows c p
+  pub knows : Knows c (tally_of p)
   pub held : Holds c b
   pub room : length b.posts < 2 ^ 62
   pub tied : Tied c b

@@ -1,10 +1,10 @@
 ghost use Rattle.std.specs.Prelude.{◌≡◌, ◌≤◌, ◌+◌, ◌↔◌, ◌++◌, ◌∷◌, [], length, sum, IsTrue, IsErr, IfOk, OnOk, OnErr};
 ghost use Rattle.ledger_model.specs.Step.{Reached, answer};
-ghost use Rattle.site_desk.{specs.Cell.{IsInService, Knows, most_passes, new_cell, new_pass, no_station}, specs.Settle.{cell_after, pass_after}};
-ghost use Rattle.station_ledger.{specs.Judged.IsJudged, specs.Spent.most_spent};
+ghost use Rattle.site_desk.{specs.Cell.{IsInService, Knows, held, most_passes, new_cell, new_pass, new_tally, no_station, tally_of}, specs.Settle.{cell_after, pass_after}};
+ghost use Rattle.station_ledger.{specs.Judged.IsJudged, specs.Spent.{IsSpent, most_spent}};
 
 use crate::fault::TooManyPasses;
-use crate::pass::Pass;
+use crate::pass::{Pass, Tally};
 use energy_flow::Work;
 use ledger_model::{Answer, Command, Limits, Order, Periods};
 use station_ledger::{Judgement, StationLedger};
@@ -117,15 +117,15 @@ impl StationCell {
         &self.ledger
     }
 
-    /// Returns whether the pass belongs to this cell, and made as many changes as the cell counts
+    /// Returns whether the tally belongs to this cell, and has as many changes as the cell counts
     /// for it.
-    pub fn knows(&self, pass: &Pass) -> bool
-        ensures known { IsTrue result ↔ Knows self.now pass.now }
+    pub fn knows(&self, tally: &Tally) -> bool
+        ensures known { IsTrue result ↔ Knows self.now tally.now }
         ensures reached { Reached self.now.limits self.now.content.changes self.now.content }
         ensures counted { sum self.now.counts ≡ self.now.content.changes }
     {
-        match self.counts.get(pass.slot) {
-            Some(count) => pass.station == self.station && *count == pass.changes,
+        match self.counts.get(tally.slot) {
+            Some(count) => tally.station == self.station && *count == tally.changes,
             None => false,
         }
     }
@@ -145,11 +145,12 @@ impl StationCell {
         self.station != NO_STATION
     }
 
-    // A pass of this station, if it may give out one more.
-    fn enlist(&mut self, work: Work) -> Result<Pass, TooManyPasses>
-        requires none { work ≡ 0 }
+    /// Gives out the tally of one more pass of the station, which made no change yet; `TooManyPasses` exactly
+    /// if it gave out 65,536 before.
+    pub fn open_tally(&mut self) -> Result<Tally, TooManyPasses>
         ensures full { IsErr result ↔ (length self.old.counts ≡ most_passes) }
-        ensures pass { IfOk result (λ p. p ≡ new_pass self.old.station (length self.old.counts)) }
+        ensures tally { IfOk result (λ t. t ≡ new_tally self.old.station (length self.old.counts)) }
+        ensures known { IfOk result (λ t. Knows self.new t) }
         ensures cell { OnOk result (self.new ≡ record self.old { counts = self.old.counts ++ 0 ∷ [] }) }
         ensures stays { OnErr result (self.new ≡ self.old) }
     {
@@ -158,32 +159,33 @@ impl StationCell {
             return Err(TooManyPasses);
         }
         self.counts.push_reserved(0);
-        Ok(Pass {
+        Ok(Tally {
             station: self.station,
             slot,
             changes: 0,
-            work,
         })
     }
 
-    // Takes a command of a pass with its judgement, and counts the change if it is accepted.
+    // Takes a command with its judgement, and counts the change in the cell and in the tally if it is accepted.
     pub(crate) fn change(
         &mut self,
-        pass: &mut Pass,
+        tally: &mut Tally,
+        work: &mut Work,
         command: Command,
         judgement: Judgement,
     ) -> Answer
-        requires known { Knows self.old pass.old }
+        requires known { Knows self.old tally.old }
         requires judged { IsJudged self.old.limits self.old.content command judgement.answer }
         ensures answer { result ≡ answer self.old.limits self.old.content command }
-        ensures cell { self.new ≡ cell_after self.old pass.old command }
-        ensures pass { pass.new ≡ pass_after pass.old result pass.new.work }
-        ensures bound { pass.new.work ≤ pass.old.work + most_spent self.old.order self.old.content.events command }
+        ensures cell { self.new ≡ cell_after self.old (held tally.old work.old) command }
+        ensures pass { held tally.new work.new ≡ pass_after (held tally.old work.old) result work.new }
+        ensures spent { IsSpent result work.old work.new }
+        ensures bound { work.new ≤ work.old + most_spent self.old.order self.old.content.events command }
     {
-        let answer = self.ledger.apply_judged(command, judgement, &mut pass.work);
+        let answer = self.ledger.apply_judged(command, judgement, work);
         if let Answer::Accepted(_) = answer {
-            self.counts[pass.slot] += 1;
-            pass.changes += 1;
+            self.counts[tally.slot] += 1;
+            tally.changes += 1;
         }
         answer
     }
@@ -194,9 +196,12 @@ impl StationCell {
 pub fn enlist_cell<R: Threads>(rt: &R, cell: &mut StationCell) -> Result<Pass, TooManyPasses>
     ensures full { IsErr result ↔ (length cell.old.counts ≡ most_passes) }
     ensures pass { IfOk result (λ p. p ≡ new_pass cell.old.station (length cell.old.counts)) }
-    ensures known { IfOk result (λ p. Knows cell.new p) }
+    ensures known { IfOk result (λ p. Knows cell.new (tally_of p)) }
     ensures cell { OnOk result (cell.new ≡ record cell.old { counts = cell.old.counts ++ 0 ∷ [] }) }
     ensures stays { OnErr result (cell.new ≡ cell.old) }
 {
-    cell.enlist(Work::open(rt))
+    match cell.open_tally() {
+        Ok(tally) => Ok(Pass::of(tally, Work::open(rt))),
+        Err(full) => Err(full),
+    }
 }

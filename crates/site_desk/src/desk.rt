@@ -1,7 +1,8 @@
 ghost use Rattle.std.{specs.Prelude.{◌≡◌, ◌≢◌, ◌↔◌, ℕ, ◌<◌, All, length, map, IfOk, IfErr, IfSome, OnOk, None, Some, false, is_some, nat_lt, slice_get, vec_len}, specs.List.list_any, specs.Str.bytes_eq};
 ghost use Rattle.ledger_model.{specs.declared.answer.Answer.Answer, specs.declared.answer.Refusal.Refusal, specs.Board.sum_of_figures};
 ghost use Rattle.site_book.specs.Tables.{HasTable, NamedBy};
-ghost use Rattle.site_desk.{specs.declared.fault.BoardFault.BoardFault, specs.declared.fault.CloseFault.CloseFault, specs.declared.fault.DeskFault.DeskFault, specs.declared.fault.EnlistFault.EnlistFault, specs.declared.roster.StationPlace.StationPlace, specs.Close.{IsClosable, Saw}, specs.Parts.{AreTied, new_viewers}, specs.Plan.plan_fault, specs.Roster.{AreNewPlaces, IsNamed}, specs.Operator.{AreBoardsAt, AreNotedBoards, AreTotalsOfName, IsListingOfName}, specs.Submit.{IsBoardOfName, IsUnchanged, Submitted}};
+ghost use Rattle.station_ledger.specs.Quarters.{IsWork};
+ghost use Rattle.site_desk.{specs.declared.fault.BoardFault.BoardFault, specs.declared.fault.CloseFault.CloseFault, specs.declared.fault.DeskFault.DeskFault, specs.declared.fault.EnlistFault.EnlistFault, specs.declared.roster.StationPlace.StationPlace, specs.Close.{IsClosable, Saw}, specs.Parts.{AreTied, new_viewers}, specs.Plan.plan_fault, specs.Roster.{AreNewPlaces, IsNamed}, specs.Operator.{AreBoardsAt, AreNotedBoards, AreTotalsOfName, IsListingOfName, named_looks, site_looks}, specs.Submit.{IsBoardOfName, IsUnchanged, Submitted}};
 
 use crate::cell::StationCell;
 use crate::checks::fault_of;
@@ -20,7 +21,7 @@ use crate::plan::Plan;
 use crate::roster::{Located, StationPlace, number_of, open_places};
 use crate::settles::{AtCell, Settles};
 use crate::submit::{board_of, stands_at};
-use energy_flow::Flow;
+use energy_flow::{Flow, Work};
 use ledger_model::{Answer, Command, Figures, Listed, Name, Refusal, TxId};
 use site_book::{Naming, SiteBook, Tables, Told, Viewer};
 use station_ledger::{StationBoard, TxListing};
@@ -227,13 +228,16 @@ impl<J: Naming, C: HasCell> Desk<J, C> {
 
     /// The board of the station of this name. It waits for the station's lock. Errors:
     /// `UnknownStation`, `OutOfMemory`, `Torn`. `Torn` means that another station's cell is there,
-    /// which no run of these calls meets.
+    /// which no run of these calls meets. `work` counts the looks at levels: at most one for each
+    /// reading that the station may store if its site settles evenly, else none.
     pub fn station_board<R: Wait>(
         &self,
         rt: &R,
         alloc: Global,
         name: &Name,
+        work: &mut Work,
     ) -> Result<StationBoard, BoardFault>
+        ensures work { IsWork (named_looks self.now.stations name.now) work.old work.new }
         ensures unknown { (result ≡ Err BoardFault.UnknownStation) ↔ (list_any (λ p. bytes_eq name.now p.name) self.now.stations ≡ false) }
         ensures board { IfOk result (IsBoardOfName self.now.stations name.now) }
     {
@@ -246,7 +250,7 @@ impl<J: Naming, C: HasCell> Desk<J, C> {
         if !stands_at(cell, number, &self.places[number]) {
             return Err(BoardFault::Torn);
         }
-        match board_of(cell, alloc) {
+        match board_of(cell, alloc, work) {
             Ok(board) => Ok(board),
             Err(_) => Err(BoardFault::OutOfMemory),
         }
@@ -329,13 +333,16 @@ impl<J: Naming, C: HasCell> Desk<J, C> {
     /// station's name, and the sums of their figures, all of one moment. It waits for the locks of these
     /// stations in the plan's order, then for that of the site's book, and holds them all. Errors:
     /// `OutOfMemory`, `Torn`. It answers `Torn` for a site that the desk doesn't have, and if cells and
-    /// book don't fit together, which no run of these calls meets.
+    /// book don't fit together, which no run of these calls meets. `work` counts the looks at levels of
+    /// all these boards.
     pub fn site_boards<R: Wait>(
         &self,
         rt: &R,
         alloc: Global,
         site: u16,
+        work: &mut Work,
     ) -> Result<(Vec<(Name, StationBoard)>, Figures), BoardFault>
+        ensures work { IsWork (site_looks self.now.stations site) work.old work.new }
         ensures known { result ≢ Err BoardFault.UnknownStation }
         ensures boards { IfOk result (λ r. AreBoardsAt self.now.stations site r.0.items) }
         ensures totals { IfOk result (λ r. r.1 ≡ sum_of_figures (map (λ s. s.1.figures) r.0.items)) }
@@ -348,7 +355,7 @@ impl<J: Naming, C: HasCell> Desk<J, C> {
             return Err(BoardFault::OutOfMemory);
         };
         let book = lock.lock(rt);
-        let boards = site_boards_of(alloc, &self.places, &held, site)?;
+        let boards = site_boards_of(alloc, &self.places, &held, site, work)?;
         match sum_of(&boards) {
             Some(totals) if totals == book.totals() => Ok((boards, totals)),
             _ => Err(BoardFault::Torn),
@@ -363,7 +370,9 @@ impl<J: Naming, C: HasCell> Desk<J, C> {
         alloc: Global,
         site: u16,
         way: &S,
+        work: &mut Work,
     ) -> Result<(Vec<(Name, StationBoard)>, Figures, N), BoardFault>
+        ensures work { IsWork (site_looks self.now.stations site) work.old work.new }
         ensures known { result ≢ Err BoardFault.UnknownStation }
         ensures boards { IfOk result (λ r. AreBoardsAt self.now.stations site r.0.items) }
         ensures noted { IfOk result (λ r. AreNotedBoards (S.notes way.now r.2) self.now.stations site r.0.items) }
@@ -377,7 +386,15 @@ impl<J: Naming, C: HasCell> Desk<J, C> {
             return Err(BoardFault::OutOfMemory);
         };
         let book = lock.lock(rt);
-        let (_held, boards, noted) = noted_boards_of(rt, alloc, &self.places, held, site, way)?;
+        let (_held, boards, noted) = noted_boards_of(
+            rt,
+            alloc,
+            &self.places,
+            held,
+            site,
+            way,
+            work,
+        )?;
         match sum_of(&boards) {
             Some(totals) if totals == book.totals() => Ok((boards, totals, noted)),
             _ => Err(BoardFault::Torn),

@@ -2,8 +2,9 @@
 //! close.
 //!
 //! A [`StationCell`] is what stands behind a station's lock: its number and its site's, its row in that site's book, its
-//! ledger, and how many changes each [`Pass`] made that it gave out. [`settle`] takes a command of a pass with the
-//! judgement of the cell's ledger; if it is accepted, the station's new figures are posted in the book, in one step, and
+//! ledger, and how many changes each [`Pass`] made that it gave out. A pass is its [`Tally`], which counts the same, and
+//! the count of the looks at levels that its commands took. [`settle`] takes a command at a tally with the
+//! judgement of the cell's ledger and a lent count of looks; if it is accepted, the station's new figures are posted in the book, in one step, and
 //! the row stays tied to the ledger. As many accepted commands as its passes made lead from the empty content to a
 //! cell's content, under its limits.
 //!
@@ -13,7 +14,8 @@
 //! and settles an accepted one under its site's lock too. Meanwhile viewers glance at the totals and wait for nobody.
 //! [`Desk::close`] compares all that was behind the locks and gives up the locks: a [`Closed`]. An operator reads a
 //! running desk by [`Desk::station_totals`] and [`Desk::site_boards`]; these boards are of one moment. Only `open`,
-//! [`Desk::station_board`] and `site_boards` take memory.
+//! [`Desk::station_board`] and `site_boards` take memory. The boards are lent a count of looks, which a site that does
+//! not settle evenly leaves as it is.
 //!
 //! A desk may keep more than a cell behind a station's lock, as one with a journal does: any type that [`HasCell`]
 //! ([`Desk::over`], [`Desk::dismantle`]). It then takes commands in a way of its own that [`Settles`]
@@ -61,7 +63,7 @@ pub use gate::{Gate, NoGate};
 pub use has_cell::HasCell;
 pub use notes::Notes;
 pub use parts::Parts;
-pub use pass::Pass;
+pub use pass::{Pass, Tally};
 pub use plan::{MAX_VIEWERS, Plan, SitePlan, StationPlan};
 pub use roster::{Located, StationPlace};
 pub use settles::Settles;

@@ -1,8 +1,9 @@
 //! The parts of a running desk that an operator reads: the totals of a station, and the boards of a site at
 //! one moment.
-ghost use Rattle.std.{specs.Prelude.{◌≡◌, ◌≢◌, ◌++◌, ◌∷◌, [], List, ℕ, Err, IfOk, IfSome, OnOk, map}, specs.Sync.Mutex.mutex_guard_value};
-ghost use Rattle.site_desk.{specs.declared.fault.BoardFault.BoardFault, specs.Operator.{AreBoardsAt, AreNotedBoards, AreTotalsWithin, IsAmong, IsBoardAt, IsBoardOfCell, IsListingWithin}, specs.Cell.Cell};
+ghost use Rattle.std.{specs.Prelude.{◌≡◌, ◌≢◌, ◌==◌, if◌then◌else◌, ◌++◌, ◌∷◌, [], List, ℕ, Err, IfOk, IfSome, OnOk, map}, specs.Sync.Mutex.mutex_guard_value};
+ghost use Rattle.site_desk.{specs.declared.fault.BoardFault.BoardFault, specs.Operator.{AreBoardsAt, AreNotedBoards, AreTotalsWithin, IsAmong, IsBoardAt, IsBoardOfCell, IsListingWithin, place_looks, site_looks}, specs.Cell.Cell};
 ghost use Rattle.ledger_model.specs.Board.{Board, sum_of_figures};
+ghost use Rattle.station_ledger.specs.Quarters.{IsWork};
 
 use crate::cell::StationCell;
 use crate::fault::BoardFault;
@@ -11,7 +12,7 @@ use crate::locks::Locked;
 use crate::notes::Notes;
 use crate::roster::StationPlace;
 use crate::submit::{board_of, stands_at};
-use energy_flow::Flow;
+use energy_flow::{Flow, Work};
 use ledger_model::{Figures, Name, TxId};
 use station_ledger::{StationBoard, TxListing};
 use std::alloc::{AllocError, Global};
@@ -60,14 +61,24 @@ pub(crate) fn site_boards_of<C: HasCell>(
     places: &[StationPlace],
     held: &[MutexGuard<'_, C>],
     site: u16,
+    work: &mut Work,
 ) -> Result<Vec<(Name, StationBoard)>, BoardFault>
+    ensures work { IsWork (site_looks places.now site) work.old work.new }
     ensures known { result ≢ Err BoardFault.UnknownStation }
     ensures boards { IfOk result (λ boards. AreBoardsAt places.now site boards.items) }
     ensures held { IfOk result (λ boards. AreNotedBoards (IsAmong (map (λ g. C.cell (mutex_guard_value g)) held.now)) places.now site boards.items) }
 {
     let mut boards = Vec::new(alloc);
     for number in 0..places.len() {
-        add_board(alloc, &places[number], number, held, site, &mut boards)?;
+        add_board(
+            alloc,
+            &places[number],
+            number,
+            held,
+            site,
+            &mut boards,
+            work,
+        )?;
     }
     Ok(boards)
 }
@@ -81,7 +92,9 @@ fn add_board<C: HasCell>(
     held: &[MutexGuard<'_, C>],
     site: u16,
     boards: &mut Vec<(Name, StationBoard)>,
+    work: &mut Work,
 ) -> Result<(), BoardFault>
+    ensures work { IsWork (if place.now.site == site then place_looks place.now else 0) work.old work.new }
     ensures known { result ≢ Err BoardFault.UnknownStation }
     ensures other { OnOk result (place.now.site ≢ site → boards.new.items ≡ boards.old.items) }
     ensures own { OnOk result (place.now.site ≡ site → (b : List ℕ × Board) × IsBoardAt place.now b × (boards.new.items ≡ boards.old.items ++ b ∷ [])) }
@@ -99,7 +112,7 @@ fn add_board<C: HasCell>(
     if !stands_at(cell, number, place) {
         return Err(BoardFault::Torn);
     }
-    let Ok(board) = board_of(cell, alloc) else {
+    let Ok(board) = board_of(cell, alloc, work) else {
         return Err(BoardFault::OutOfMemory);
     };
     put_board(boards, place.name.copied(), board)
@@ -139,7 +152,9 @@ pub(crate) fn noted_boards_of<'a, C: HasCell, S: Notes<C, N>, N: Drop, R: Wait>(
     held: Vec<MutexGuard<'a, C>>,
     site: u16,
     way: &S,
+    work: &mut Work,
 ) -> Result<(Vec<MutexGuard<'a, C>>, Vec<(Name, StationBoard)>, N), BoardFault>
+    ensures work { IsWork (site_looks places.now site) work.old work.new }
     ensures known { result ≢ Err BoardFault.UnknownStation }
     ensures boards { IfOk result (λ r. AreBoardsAt places.now site r.1.items) }
     ensures noted { IfOk result (λ r. AreNotedBoards (S.notes way.now r.2) places.now site r.1.items) }
@@ -147,7 +162,7 @@ pub(crate) fn noted_boards_of<'a, C: HasCell, S: Notes<C, N>, N: Drop, R: Wait>(
     let Ok((held, noted)) = way.note(rt, alloc, held) else {
         return Err(BoardFault::OutOfMemory);
     };
-    let boards = site_boards_of(alloc, places, held.as_slice(), site)?;
+    let boards = site_boards_of(alloc, places, held.as_slice(), site, work)?;
     Ok((held, boards, noted))
 }
 

@@ -1,12 +1,13 @@
 ghost use Rattle.std.specs.Prelude.{◌≡◌, IsNone, IsTrue, IfOk, IfSome};
 ghost use Rattle.ledger_model.{specs.Board.board_by, specs.Content.entries, specs.Figures.AreWithin};
 ghost use Rattle.site_desk.{specs.Roster.StandsAt, specs.Submit.{CanJudge, CanSettle, IsBoardWithin, Submitted, TellsOf}, specs.Settle.cell_after};
-ghost use Rattle.station_ledger.specs.Judged.{IsJudged};
+ghost use Rattle.station_ledger.{specs.Judged.IsJudged, specs.Looks.looks_within, specs.Quarters.IsWork};
 
 use crate::cell::StationCell;
 use crate::pass::Pass;
 use crate::roster::{Located, StationPlace};
 use crate::steps::{settle, tied};
+use energy_flow::Work;
 use ledger_model::{Answer, Command, Refusal};
 use site_book::{Naming, SiteBook, Told};
 use station_ledger::{Judgement, StationBoard};
@@ -30,7 +31,7 @@ pub(crate) fn stands_at(cell: &StationCell, number: usize, place: &StationPlace)
 pub fn can_judge(cell: &StationCell, number: usize, place: &StationPlace, pass: &Pass) -> bool
     ensures { IsTrue result → CanJudge number place.now cell.now pass.now }
 {
-    cell.is_in_service() && stands_at(cell, number, place) && cell.knows(pass)
+    cell.is_in_service() && stands_at(cell, number, place) && cell.knows(&pass.tally)
 }
 
 // Returns whether a command of the pass may be settled, if it may be judged.
@@ -67,7 +68,14 @@ fn settle_locked<J: Naming>(
     ensures tells { TellsOf place.now cell.old.content command result.0 result.1 }
     ensures submitted { Submitted place.now pass.old command result.0 pass.new result.1 }
 {
-    settle(cell, book, pass, command, judgement)
+    settle(
+        cell,
+        book,
+        &mut pass.tally,
+        &mut pass.work,
+        command,
+        judgement,
+    )
 }
 
 // Takes a command, which may be judged, at the value behind the station's lock, as `Desk::submit` does. One that the
@@ -130,10 +138,15 @@ pub fn settle_at<J: Naming, R: Wait>(
 }
 
 // The board of a cell's station.
-pub(crate) fn board_of(cell: &StationCell, alloc: Global) -> Result<StationBoard, AllocError>
+pub(crate) fn board_of(
+    cell: &StationCell,
+    alloc: Global,
+    work: &mut Work,
+) -> Result<StationBoard, AllocError>
+    ensures work { IsWork (looks_within cell.now.period.rule cell.now.limits.readings) work.old work.new }
     ensures board { IfOk result (IsBoardWithin cell.now.limits cell.now.period cell.now.order) }
     ensures shown { IfOk result (λ b. b ≡ board_by cell.now.order cell.now.period (entries cell.now.content)) }
     ensures within { IfOk result (λ b. AreWithin cell.now.limits b.figures) }
 {
-    cell.ledger().board(alloc)
+    cell.ledger().board(alloc, work)
 }

@@ -4,6 +4,7 @@ pub mod Walks
 pub mod Both
 pub mod EndKinds
 pub mod EndNumbers
+pub mod Looking
 pub mod Moved
 pub mod Bounded
 pub mod Stands

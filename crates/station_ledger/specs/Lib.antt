@@ -17,3 +17,4 @@ pub mod Lines
 pub mod Numbered
 pub mod Shares
 pub mod Listing
+pub mod Looks

@@ -1,7 +1,7 @@
-ghost use Rattle.std.specs.Prelude.{◌≡◌, ◌+◌, ◌<◌, ◌≤◌, ◌^◌, IfOk};
+ghost use Rattle.std.specs.Prelude.{◌≡◌, ◌≢◌, ◌+◌, ◌<◌, ◌≤◌, ◌^◌, IfOk};
 ghost use Rattle.std.specs.FinMap as finite;
-ghost use Rattle.ledger_model.{specs.Ranges.most_event_readings, specs.Content.{empty_content, entries}, specs.declared.reading.Direction.TheVariants.{Import, Export}, specs.Energy.energy_by, specs.Evse.energy_at_by, specs.Figures.AreWithin, specs.Board.{board_by, figures_by}, specs.Step.{Reached, answer, answer_to_deliver, answer_to_void, answer_to_voided, accepted_within_limit, step}};
-ghost use Rattle.station_ledger.{specs.Judged.{IsApplied, IsJudged}, specs.Listing.listing_by, specs.New.answer_to_new, specs.Spent.{IsSpent, most_spent}, specs.Used.used_limits};
+ghost use Rattle.ledger_model.{specs.Ranges.most_event_readings, specs.Content.{empty_content, entries}, specs.declared.reading.Direction.TheVariants.{Import, Export}, specs.Energy.energy_by, specs.Evse.energy_at_by, specs.Figures.AreWithin, specs.Board.{board_by, figures_by}, specs.declared.settle.Settle.Settle, specs.Step.{Reached, answer, answer_to_deliver, answer_to_void, answer_to_voided, accepted_within_limit, step}};
+ghost use Rattle.station_ledger.{specs.Judged.{IsApplied, IsJudged}, specs.Listing.listing_by, specs.Looks.{looks_within, most_looks}, specs.New.answer_to_new, specs.Quarters.IsWork, specs.Spent.{IsSpent, most_spent}, specs.Used.used_limits};
 
 use crate::board::StationBoard;
 use crate::judgement::Judgement;
@@ -258,11 +258,16 @@ impl StationLedger {
 
     /// The board: the figures; the EVSEs and the periods with their energies; and the transactions
     /// with a live event, with their gaps. It takes memory, as [`StationLedger::listing`] does; no other call does.
-    pub fn board(&self, alloc: Global) -> Result<StationBoard, AllocError>
+    /// `work` counts each look at two levels, also before an error: at most one for each pair of readings if the site
+    /// settles evenly, else none.
+    pub fn board(&self, alloc: Global, work: &mut Work) -> Result<StationBoard, AllocError>
+        ensures looks { IsWork (most_looks self.now.period.rule self.now.order (entries self.now.content)) work.old work.new }
+        ensures bound { IsWork (looks_within self.now.period.rule self.now.limits.readings) work.old work.new }
+        ensures still { self.now.period.rule ≢ Settle.Even → work.new ≡ work.old }
         ensures board { IfOk result (λ b. b ≡ board_by self.now.order self.now.period (entries self.now.content)) }
         ensures within { IfOk result (λ b. AreWithin self.now.limits b.figures) }
     {
-        board_of(alloc, &self.chains, &self.sums, self.figures())
+        board_of(alloc, &self.chains, &self.sums, self.figures(), work)
     }
 
     /// How much of each limit it uses.

@@ -12,9 +12,10 @@
 //! the export register. [`StationLedger::figures`] sums up the station in nine numbers. A
 //! [`StationBoard`] shows the figures, the EVSEs and the periods with their energies, and each
 //! transaction with a live event and its missing numbers. [`StationLedger::listing`] lists the events of a transaction,
-//! and the readings that its energy is made of. None of these calls is lent a `Work`, so none
-//! compares readings by [`energy_flow::difference`]. The board of a station that settles evenly looks at
-//! levels, which needs the allocator: what two readings show is shared by time when the board is made.
+//! and the readings that its energy is made of. `energy`, `export`, `evse`, `evse_export`, `figures`
+//! and `listing` are lent no `Work`, so none of them looks at what a reading shows. `board` is lent one: if the site
+//! settles evenly, what two readings show is shared by time when the board is made, and counted once for each pair; else
+//! nothing is counted. [`parts_between`] is given the difference of two readings and looks at no level.
 //!
 //! The crate's contract: contracts see a ledger as its limits, its period, its order and its content, and not how these
 //! are kept. `apply` gives the answer of the ledger's step and leaves the step's content. As many accepted commands as
@@ -37,7 +38,7 @@
 //! let mut ledger = StationLedger::open(alloc, limits, period, order, settle)?;
 //! ledger.apply(Command::Deliver(key, event), &mut work); // Accepted(1)
 //! ledger.energy().up(); // milliwatt-hours
-//! for line in ledger.board(alloc)?.transactions() { .. } // line.tx(), line.missing(), line.gaps()
+//! for line in ledger.board(alloc, &mut work)?.transactions() { .. } // line.tx(), line.missing(), line.gaps()
 //! ```
 #![tactic(auto)]
 

@@ -3,13 +3,14 @@ ghost use Rattle.std.{specs.Prelude.{◌≡◌, ◌+◌, List, Some, IfOk, lengt
 ghost use Rattle.event_chain.specs.Chains.{stored};
 ghost use Rattle.ledger_model.{specs.Board.{board_by, figures_by, shown_by}, specs.Evse.{flows_at_by, evses as evses_of}, specs.Content.{Entry, live, transactions_of}, specs.declared.order.Order.Order, specs.Gaps.{gaps, numbers_of}, specs.Ranges.greatest_evse};
 ghost use Rattle.quarter_table.specs.Pairs.{line_of};
-ghost use Rattle.station_ledger.{specs.Numbered.AreNumbered, specs.Standing.standing_by, specs.Sums.{AreAllowed, AreEvseSums, AreStanding, AreSummed, order_in}};
+ghost use Rattle.station_ledger.{specs.Looks.most_looks, specs.Numbered.AreNumbered, specs.Quarters.IsWork, specs.Standing.standing_by, specs.Sums.{AreAllowed, AreEvseSums, AreStanding, AreSummed, order_in}};
 ghost use Rattle.transaction_map.specs.Map.{id_cmp};
 
 use crate::board::{EvseLine, QuarterLine, StationBoard, TxLine};
 use crate::shares::shared_rows;
 use crate::sums::Sums;
 use crate::totals::EvseSum;
+use energy_flow::Work;
 use event_chain::Chains;
 use gap_list::Gaps;
 use ledger_model::{EvseId, Figures, GREATEST_EVSE, Listed, Settle, TxId};
@@ -105,15 +106,17 @@ fn settled_lines(
     alloc: Global,
     chains: &Chains,
     sums: &Sums,
+    work: &mut Work,
 ) -> Result<Vec<QuarterLine>, AllocError>
     requires within { AreAllowed (order_in sums.now) chains.now.limits (stored chains.now) }
     requires numbered { AreNumbered (stored chains.now) }
     requires summed { AreSummed chains.now.limits (stored chains.now) sums.now }
-    ensures { IfOk result (λ lines. lines.items ≡ (board_by (order_in sums.now) sums.now.period (stored chains.now)).quarters) }
+    ensures work { IsWork (most_looks sums.now.period.rule (order_in sums.now) (stored chains.now)) work.old work.new }
+    ensures lines { IfOk result (λ lines. lines.items ≡ (board_by (order_in sums.now) sums.now.period (stored chains.now)).quarters) }
 {
     match sums.period.rule() {
         Settle::Later | Settle::Closing => quarter_lines(alloc, &sums.quarters),
-        Settle::Even => quarter_lines(alloc, &shared_rows(alloc, chains, sums)?),
+        Settle::Even => quarter_lines(alloc, &shared_rows(alloc, chains, sums, work)?),
     }
 }
 
@@ -123,16 +126,18 @@ pub(crate) fn board_of(
     chains: &Chains,
     sums: &Sums,
     figures: Figures,
+    work: &mut Work,
 ) -> Result<StationBoard, AllocError>
     requires within { AreAllowed (order_in sums.now) chains.now.limits (stored chains.now) }
     requires numbered { AreNumbered (stored chains.now) }
     requires summed { AreSummed chains.now.limits (stored chains.now) sums.now }
     requires figures { figures ≡ figures_by (order_in sums.now) (stored chains.now) }
-    ensures { IfOk result (λ b. b ≡ board_by (order_in sums.now) sums.now.period (stored chains.now)) }
+    ensures work { IsWork (most_looks sums.now.period.rule (order_in sums.now) (stored chains.now)) work.old work.new }
+    ensures board { IfOk result (λ b. b ≡ board_by (order_in sums.now) sums.now.period (stored chains.now)) }
 {
     let transactions = transaction_lines(alloc, chains, sums)?;
     let evses = evse_lines(alloc, &sums.evses)?;
-    let quarters = settled_lines(alloc, chains, sums)?;
+    let quarters = settled_lines(alloc, chains, sums, work)?;
     Ok(StationBoard {
         // Settlement periods of one of the four lengths begin at moments.
         period: sums.period.copied(),

@@ -1,7 +1,7 @@
 //! The events and readings of a transaction.
 ghost use Rattle.std.{specs.Prelude.{◌≡◌, ◌++◌, All, List, IfOk, IfSome}, specs.List.flat_map};
 ghost use Rattle.event_chain.specs.Chains.{stored};
-ghost use Rattle.ledger_model.{specs.Content.Entry, specs.Energy.{flows_of_by, parts_of}, specs.Limits.Bounds, specs.Quarter.IsQuarterOf, specs.declared.order.Order.Order, specs.declared.order.Order.TheVariants.Sequence, specs.declared.reading.Direction.TheVariants.{Export, Import}};
+ghost use Rattle.ledger_model.{specs.Content.Entry, specs.Energy.{difference, flows_of_by, parts_of}, specs.Limits.Bounds, specs.Quarter.IsQuarterOf, specs.declared.order.Order.Order, specs.declared.order.Order.TheVariants.Sequence, specs.declared.reading.Direction.TheVariants.{Export, Import}};
 ghost use Rattle.station_ledger.{specs.ByMoment.AreByMoment, specs.Listing.{AreListedByMoment, IsByMoment, listing_by, placed_by, placed_from}, specs.Numbered.{AreNumbered, AreNumbers}, specs.Quarters.readings_at, specs.Sums.{AreAllowed, AreStanding, AreSummed, order_in}};
 
 use crate::by_moment::ByMoment;
@@ -12,7 +12,7 @@ use gap_list::NumberWalk;
 use ledger_model::{
     ByDirection, Direction, Key, Listed, Order, Periods, Quarter, Reading, Settle, TxId,
 };
-use quarter_table::even_parts;
+use quarter_table::share_evenly;
 use reading_decimal::settled_quarter;
 use reading_index::PlacedReading;
 use std::alloc::{AllocError, Global};
@@ -164,22 +164,25 @@ pub(crate) fn listing_of(
 
 /// The parts of the difference of two readings of a direction, the later one behind the earlier: each settlement period
 /// to which a part belongs, in rising order, and the energy of that part, in milliwatt-hours. There is one part, unless
-/// the site settles evenly. The error says that the allocator refused memory.
+/// the site settles evenly. No level is looked at. The error says that the allocator refused memory.
+///
+/// Condition: the flow is the difference of the readings' levels.
 pub fn parts_between(
     alloc: Global,
     period: Periods,
     earlier: Reading,
     later: Reading,
+    flow: Flow,
 ) -> Result<Vec<(Quarter, Flow)>, AllocError>
+    requires { flow ≡ difference (earlier, later) }
     ensures parts { IfOk result (λ parts. parts.items ≡ parts_of period (earlier, later)) }
     ensures own { IfOk result (λ parts. All (λ t. IsQuarterOf period.length t.0) parts.items) }
 {
     // Each period between two moments begins at one: their nanoseconds are those of moments.
     let (_since, _until) = (earlier.moment().nanos(), later.moment().nanos());
     if let Settle::Even = period.rule() {
-        return even_parts(alloc, period.length(), earlier, later);
+        return share_evenly(alloc, period.length(), earlier, later, flow);
     }
-    let flow = Flow::between(earlier.level().shown(alloc), later.level().shown(alloc));
     let mut parts = Vec::new(alloc);
     parts.push((settled_quarter(later.moment(), period), flow))?;
     Ok(parts)

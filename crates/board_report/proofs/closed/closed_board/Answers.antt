@@ -4,8 +4,8 @@ use Rattle.board_report.{specs.Texts.board_text, specs.Boards.{site_boards, site
 use Rattle.site_desk.{specs.declared.plan.SitePlan.SitePlan, specs.Close.figures_at, specs.Plan.{order_at, period_at}}
 use Rattle.board_report.proofs.closed.closed_board.Goals as goal
 
-pub returns : goal.returns
-returns g c =
+pub returns-clause-text : goal.returns-clause-text
+returns-clause-text g c =
     let sites = c.args.plan.now.sites.items in
     let xs = c.args.plan.now.stations.items in
     let closed = c.args.closed.now in
@@ -23,4 +23,4 @@ returns g c =
     let name = c.copied-name.ensures ∙ ap (λ l. (get_or l site x).name) c.as_slice.ensures.value ∙ name_at sites site x c.requires.planned in
     let there = ap (λ l. site_under sites xs l site c.copied-name.result c.totals-totals.result) c.cells.ensures in
     let same = named_alike c.copied-name.result (get_or (map (λ (p : SitePlan). p.name) sites) site []) period order c.totals-totals.result (figures_at closed.cells site) boards name totals sums in
-    value_told c.site_text.result _ _ (λ text h. h ∙ ap board_text there ∙ ap board_text same) c.site_text.ensures
+    value_told c.site_text.result _ _ (λ text h. h ∙ ap board_text there ∙ ap board_text same) c.site_text.ensures.text

@@ -36,6 +36,7 @@ lines-preserved g c =
       answer_goes_on _ _ _ _ _ _ _ _ _ _ _ n is _ _ (c.next_line_flushing.ensures.max_line_bytes ∙ c.lines.invariant.1) c.line-line.ensures _ a.run.0 a.run.1 _ a.run.2,
       c.next_line_flushing.ensures.max_line_bytes ∙ c.lines.invariant.1,
       omega (arith, a.count, ap (λ (x : State). x.posts) c.look.ensures.same, c.lines.invariant.2, less_room _ _ _ _ _ _ _ _ _ _ _ n is),
+      omega (arith, c.lines.invariant.3, a.work),
     )
 
 pub returns-then-is_empty-clause-run : goal.returns-then-is_empty-clause-run
@@ -80,6 +81,7 @@ lines-init g c =
           (subst (λ t. AnsweredLines (script_text start) (script_text t) longest_line longest_script longest_script r r w w) text first),
       c.open-lines.ensures.max_line_bytes,
       omega (arith, ap (λ (x : State). x.posts) c.begin-script.ensures, c.open-lines.ensures.room),
+      omega arith,
     )
 
 pub returns-then-is_empty-clause-end : goal.returns-then-is_empty-clause-end

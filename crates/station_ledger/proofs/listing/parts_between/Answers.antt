@@ -11,7 +11,7 @@ returns-in-Even-clause-own c =
     let since = subst IsMoment (c.nanos-since.ensures.value ∙ c.moment.ensures) c.nanos-since.ensures.range in
     let until = subst IsMoment (c.nanos-until.ensures.value ∙ c.moment-2.ensures) c.nanos-until.ensures.range in
     let own = parts_own period (one, other) (subst IsPeriod c.length.ensures.value c.length.ensures.range) since until in
-    IfOk-weaker c.even_parts.result _ _
+    IfOk-weaker c.share_evenly.result _ _
     (λ parts is. subst (λ (ts : List Part). All (λ (t : Part). IsQuarterOf period.length t.0) ts)
     (sym (is ∙ (λ i. parts_by (rule i) (c.length.ensures.value i) (change_of (one, other))))) own)
-    c.even_parts.ensures
+    c.share_evenly.ensures

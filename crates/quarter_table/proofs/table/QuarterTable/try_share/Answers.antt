@@ -8,8 +8,8 @@ loop-part-preserved c =
     c.loop-part-test.true c.part-item.is c.loop-part.invariant c.in_ok-try_add.ensures.added
 
 -- past the last part these are all
-pub returns : goal.returns
-returns c =
+pub returns-clause-rows : goal.returns-clause-rows
+returns-clause-rows c =
     let parts = c.deref-part-items.result.now in let d = c.args.direction in let rows = c.args.self.now.rows in
     c.loop-part.invariant
-    ∙ ap (λ ts. rows_with (parts_toward d ts) rows) (take_all c.loop-part.part-index parts (omega (arith, c.loop-part-test.false)) ∙ c.deref-part-items.ensures.value ∙ c.in_ok-parts.ensures)
+    ∙ ap (λ ts. rows_with (parts_toward d ts) rows) (take_all c.loop-part.part-index parts (omega (arith, c.loop-part-test.false)) ∙ c.deref-part-items.ensures.value ∙ c.in_ok-parts.ensures.parts)

@@ -1,5 +1,5 @@
 use Rattle.std.proofs.Common.{sym, ◌∙◌}
-use Rattle.script_ledgers.proofs.Parted.{cells_of, faultless}
+use Rattle.script_ledgers.proofs.{Parted.{cells_of, faultless}, Passes.their_passes}
 use Rattle.script_ledgers.proofs.opened_script.OpenedScript.into_parts.Goals as goal
 
 pub returns-clause-faultless : goal.returns-clause-faultless
@@ -10,9 +10,9 @@ returns-clause-faultless g c =
 pub returns-clause-placed : goal.returns-clause-placed
 returns-clause-placed g c =
     let s = c.args.self in
-    cells_of s.draft.sites s.draft.stations s.cells.items s.books.items s.passes.items s.running
+    cells_of s.draft.sites s.draft.stations s.cells.items s.books.items s.tallies.items s.running
 
 pub returns-clause-passes : goal.returns-clause-passes
 returns-clause-passes g c =
-    let r = c.args.self.running in
-    record { count = r.all_passes ∙ sym r.all_cells; known = r.known }
+    let s = c.args.self in
+    their_passes s.draft.sites s.draft.stations s.cells.items s.books.items s.tallies.items s.running c.in_ok-passes.passes.items c.in_ok-passes.ensures
