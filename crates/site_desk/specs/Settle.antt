@@ -2,7 +2,7 @@ use Rattle.std.specs.Prelude.{◌≡◌, ℕ, ◌+◌, ◌≤◌, List, [], ◌�
 use Rattle.ledger_model.{specs.declared.answer.Answer.Answer, specs.declared.answer.Answer.TheVariants.{Accepted, Repeat, Refused}, specs.declared.command.Command.Command, specs.Board.figures_by, specs.Content.entries, specs.Posts.{Post, row_after}, specs.Step.{answer, step}}
 use Rattle.site_book.specs.Book.{Book, Known, known}
 use Rattle.site_desk.specs.Cell.{Cell, Held, Knows, tally_of}
-use Rattle.station_ledger.specs.Spent.{most_spent}
+use Rattle.station_ledger.specs.Spent.{IsSpent, most_spent}
 
 -- The book has the cell's row, which was opened with the cell's limits.
 abbrev pub Holds : Cell → Book → Type 0
@@ -50,6 +50,7 @@ pub record IsSettled (c : Cell) (b : Book) (p : Held) (command : Command) (a : A
   pub answer : a ≡ answer c.limits c.content command
   pub cell : c' ≡ cell_after c p command
   pub pass : p' ≡ pass_after p a p'.work
+  pub spent : IsSpent a p.work p'.work
   pub bound : p'.work ≤ p.work + most_spent c.order c.content.events command
   pub book : b' ≡ record b { posts = posts_after b.posts c' a }
   pub told : t ≡ told_after b' a

@@ -1,7 +1,7 @@
 ghost use Rattle.std.specs.Prelude.{◌≡◌, ◌≤◌, ◌+◌, ◌↔◌, ◌++◌, ◌∷◌, [], length, sum, IsTrue, IsErr, IfOk, OnOk, OnErr};
 ghost use Rattle.ledger_model.specs.Step.{Reached, answer};
 ghost use Rattle.site_desk.{specs.Cell.{IsInService, Knows, held, most_passes, new_cell, new_pass, new_tally, no_station, tally_of}, specs.Settle.{cell_after, pass_after}};
-ghost use Rattle.station_ledger.{specs.Judged.IsJudged, specs.Spent.most_spent};
+ghost use Rattle.station_ledger.{specs.Judged.IsJudged, specs.Spent.{IsSpent, most_spent}};
 
 use crate::fault::TooManyPasses;
 use crate::pass::{Pass, Tally};
@@ -179,6 +179,7 @@ impl StationCell {
         ensures answer { result ≡ answer self.old.limits self.old.content command }
         ensures cell { self.new ≡ cell_after self.old (held tally.old work.old) command }
         ensures pass { held tally.new work.new ≡ pass_after (held tally.old work.old) result work.new }
+        ensures spent { IsSpent result work.old work.new }
         ensures bound { work.new ≤ work.old + most_spent self.old.order self.old.content.events command }
     {
         let answer = self.ledger.apply_judged(command, judgement, work);
