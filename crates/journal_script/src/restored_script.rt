@@ -8,7 +8,8 @@ ghost use Rattle.journal_script.{specs.Place.{place_of, posts_of}, specs.Restori
 use crate::fault::RestoreFault;
 use crate::restored::Restored;
 use crate::source::Source;
-use script_ledgers::ScriptState;
+use message_ahead::Lookahead;
+use script_ledgers::ScriptAhead;
 use site_book::{Naming, Tables};
 use std::alloc::Global;
 use std::io::{BufRead, Write};
@@ -17,7 +18,7 @@ use std::thread::Threads;
 // A script that is being restored: the state after its lines so far, and its source.
 #[derive(Drop)]
 pub(crate) struct RestoredScript<J: Naming> {
-    script: ScriptState<J>,
+    script: ScriptAhead<J, Lookahead>,
     source: Source,
 }
 
@@ -34,7 +35,7 @@ impl<J: Naming> RestoredScript<J> {
         ensures few { result.source.lines.room < 2 ^ 61 }
     {
         RestoredScript {
-            script: ScriptState::<J>::begin(tables),
+            script: ScriptAhead::<J, Lookahead>::begin(tables, Lookahead::new(alloc)),
             source: Source::open(alloc),
         }
     }
@@ -116,7 +117,7 @@ impl<J: Naming> RestoredScript<J> {
         ensures fails { IfErr result (λ e. e ≢ RestoreFault.NotMarked) }
     {
         let RestoredScript { script, source } = self;
-        let (draft, cells, passes) = script.into_parts(rt)?;
+        let (draft, cells, passes) = script.into_script().into_parts(rt)?;
         let has_lost = source.left_out.has_lost;
         let restored = Restored {
             draft,

@@ -1,16 +1,16 @@
 -- An operator's answers, from the desk's answers.
-use Rattle.std.{proofs.Common.{◌≡◌, ℕ, zero, Bool, true, false, ◌⊎◌, inl, inr, List, [], ◌++◌, Option, Some, Result, Ok, Err, refl, ap, sym, subst, ◌∙◌, codes, slice_get}, specs.Prelude.{OnOk, unwrap_or}}
+use Rattle.std.{proofs.Common.{◌≡◌, ℕ, zero, Bool, true, false, ◌⊎◌, inl, inr, List, [], ◌++◌, Option, Some, Result, Ok, Err, refl, ap, sym, subst, ◌∙◌, codes, slice_get}, specs.Prelude.{OnOk}}
 use Rattle.board_report.specs.Texts.{total_text}
 use Rattle.energy_flow.specs.Flow.{Energy}
 use Rattle.ledger_model.{specs.declared.answer.Answer.Answer, specs.declared.answer.Answer.TheVariants.{Accepted, Repeat, Refused}, specs.declared.answer.Refusal.TheVariants.{ConflictingEvent, TooManyTransactions, EventsFull, ReadingsFull, NoSuchEvent, AlreadyVoided, NotVoided, ChangesExhausted}, specs.declared.command.Command.Command, specs.declared.command.Command.TheVariants.Deliver, specs.Content.{Content, empty_content}, specs.Limits.Bounds, specs.Step.{Reached, answer}, specs.World.Station}
 use Rattle.ledger_model.specs.declared.figures.Figures as figures
-use Rattle.script_ledgers.specs.Script.{by_meaning, energy_line, export_line, listed, start}
+use Rattle.script_ledgers.{specs.declared.detail.Detail.Detail, specs.declared.detail.Detail.TheVariants.{Outcome, Reply}, specs.Detail.{event_text, message_text, message_to, ready_text}, specs.Script.{Script, by_meaning, energy_line, export_line, listed, start, told_by}}
 use Rattle.script_lines.{specs.declared.script_line.TxList.TxList, specs.Texts.{answer_text, ended_line}}
 use Rattle.site_book.specs.Book.{Known}
 use Rattle.site_desk.{specs.declared.roster.StationPlace.StationPlace, specs.Operator.{AreTotalsOfName, IsListingOfName}, specs.Roster.IsNamed, specs.Submit.{IsAnswered, Submitted}, specs.Cell.Held}
 use Rattle.station_ledger.specs.declared.listing.TxListing.{TxListing}
-use Rattle.station_link.specs.Answer.{Answers, AnswersMeaning, IsGivenAt}
-use Rattle.transaction_event.{specs.Message.{Meaning, Event, Ready, Silence, message}, specs.Reply.event_reply_bytes}
+use Rattle.station_link.specs.Answer.{IsGivenAt, OutcomeOfMeaning, Outcomes}
+use Rattle.transaction_event.{specs.Message.{Meaning, Event, Ready, Silence, message}, specs.Reply.event_reply_bytes, specs.Request.Request}
 use Rattle.running_desk.{specs.declared.operator.WhichTotals.WhichTotals, specs.declared.operator.WhichTotals.TheVariants.{Figures, Import, Export}, specs.Replied.{AreTotals, IsCommandLine, IsCommanded, IsExhausted, IsList, IsMessageLine, IsSent, IsStationOf, IsTotals, totals_line}}
 
 -- a station of a name with this content
@@ -84,54 +84,87 @@ commanded gives seen places name p command p' line named h =
       | inr e ↦ inr (h.is ∙ ap (λ (a : Answer). ended_line (answer_text a)) e)
     ]
 
+-- what a line `msg` or `deliver` does with a message of this meaning
+by_detail : Detail → Meaning → Station → Script → Script × List ℕ
+by_detail Reply m s script = by_meaning m s script
+by_detail Outcome m s script = told_by m s script
+
+by_detail_is : (detail : Detail) (s : Station) (script : Script) (words : List ℕ)
+    → message_to detail (Some s) script words ≡ by_detail detail (message words script.moment) s script
+unfolding by_detail
+by_detail_is Reply s script words = refl
+by_detail_is Outcome s script words = refl
+
+event_of : (detail : Detail) (id : List ℕ) (request : Request) (s : Station) (script : Script)
+    → let answered = answer s.limits s.content (Deliver request.key request.event) in
+    event_text detail answered (event_reply_bytes id request.token answered) ≡ (by_detail detail (Event id request) s script).1
+unfolding by_detail
+event_of Reply id request s script = refl
+event_of Outcome id request s script = refl
+
+ready_of : (detail : Detail) (reply : List ℕ) (s : Station) (script : Script) → ready_text detail reply ≡ (by_detail detail (Ready reply) s script).1
+unfolding by_detail
+ready_of Reply reply s script = refl
+ready_of Outcome reply s script = refl
+
+silent_of : (detail : Detail) (s : Station) (script : Script) → ended_line (codes "silent") ≡ (by_detail detail Silence s script).1
+unfolding by_detail
+silent_of Reply s script = refl
+silent_of Outcome s script = refl
+
 -- a meaning's answer, as a line, is what a replay answers
-replied : {M : Type 0} (gives : ℕ → StationPlace → Command → Answer → Option Known → Option M → Type 0) (seen : Option M)
+replied : {M : Type 0} (detail : Detail) (gives : ℕ → StationPlace → Command → Answer → Option Known → Option M → Type 0) (seen : Option M)
     (places : List StationPlace) (name : List ℕ) (p : Held) (named : IsNamed places name p.station) (moment : ℕ) (m : Meaning)
-    (text : Option (List ℕ)) (p' : Held) (told : Option Known) (line : List ℕ)
-    → AnswersMeaning gives places p m text p' told seen → line ≡ ended_line (unwrap_or text (codes "silent"))
-    → ((s : Station) × IsStationOf places name s × (line ≡ (by_meaning m s (record start { moment = moment })).1)) ⊎ IsExhausted m line
-replied gives seen places name p named moment Silence text p' told line h is =
+    (outcome : Option Answer) (text : Option (List ℕ)) (p' : Held) (told : Option Known) (line : List ℕ)
+    → OutcomeOfMeaning gives places p m outcome text p' told seen → line ≡ message_text detail outcome text
+    → ((s : Station) × IsStationOf places name s × (line ≡ (by_detail detail m s (record start { moment = moment })).1)) ⊎ IsExhausted detail m line
+replied detail gives seen places name p named moment Silence outcome text p' told line h is =
+    let s = with_content name named.place.limits empty_content in
     inl (
-      with_content name named.place.limits empty_content,
+      s,
       stands_with places name p.station named zero empty_content refl,
-      is ∙ ap (λ (t : Option (List ℕ)). ended_line (unwrap_or t (codes "silent"))) h.same,
+      is ∙ ap (message_text detail outcome) h.1.same ∙ silent_of detail s (record start { moment = moment }),
     )
-replied gives seen places name p named moment (Ready reply) text p' told line h is =
+replied detail gives seen places name p named moment (Ready reply) outcome text p' told line h is =
+    let s = with_content name named.place.limits empty_content in
     inl (
-      with_content name named.place.limits empty_content,
+      s,
       stands_with places name p.station named zero empty_content refl,
-      is ∙ ap (λ (t : Option (List ℕ)). ended_line (unwrap_or t (codes "silent"))) h.same,
+      is ∙ (λ i. message_text detail (h.0 i) (h.1.same i)) ∙ ready_of detail reply s (record start { moment = moment }),
     )
-replied gives seen places name p named moment (Event id request) text p' told line h is =
-    let said = is ∙ ap (λ (t : Option (List ℕ)). ended_line (unwrap_or t (codes "silent"))) h.reply in
-    elim (stepped named.place p (Deliver request.key request.event) h.answer p' told (h.submitted.settled named.place named.there)) [
+replied detail gives seen places name p named moment (Event id request) outcome text p' told line h is =
+    let d = h.0 in
+    let said : line ≡ event_text detail d.answer (event_reply_bytes id request.token d.answer) = is ∙ (λ i. message_text detail (h.1 i) (d.reply i)) in
+    elim (stepped named.place p (Deliver request.key request.event) d.answer p' told (d.submitted.settled named.place named.there)) [
       | inl s ↦ inl (
         with_content name named.place.limits s.content,
         stands_with places name p.station named s.changes s.content s.reached,
-        said ∙ ap (λ (a : Answer). ended_line (event_reply_bytes id request.token a)) (sym s.answered),
+        said ∙ ap (λ (a : Answer). event_text detail a (event_reply_bytes id request.token a)) (sym s.answered)
+        ∙ event_of detail id request (with_content name named.place.limits s.content) (record start { moment = moment }),
       )
-      | inr e ↦ inr (said ∙ ap (λ (a : Answer). ended_line (event_reply_bytes id request.token a)) e)
+      | inr e ↦ inr (said ∙ ap (λ (a : Answer). event_text detail a (event_reply_bytes id request.token a)) e)
     ]
 
 -- words that were read
-sent_read : {M : Type 0} (gives : ℕ → StationPlace → Command → Answer → Option Known → Option M → Type 0) (seen : Option M)
+sent_read : {M : Type 0} (detail : Detail) (gives : ℕ → StationPlace → Command → Answer → Option Known → Option M → Type 0) (seen : Option M)
     (places : List StationPlace) (name : List ℕ) (p : Held) (named : IsNamed places name p.station) (words : List ℕ) (moment : ℕ)
-    (text : Option (List ℕ)) (p' : Held) (told : Option Known) (memory : Bool) (line : List ℕ)
-    → Answers gives places p words moment text p' told seen memory → line ≡ ended_line (unwrap_or text (codes "silent")) → IsSent places name words moment line
-sent_read gives seen places name p named words moment text p' told true line h is =
-    inr (inr (record { reply = h.reply; tells = h.tells; is = is ∙ ap (λ (t : Option (List ℕ)). ended_line (unwrap_or t (codes "silent"))) h.ready.same }))
-sent_read gives seen places name p named words moment text p' told false line h is =
-    elim (replied gives seen places name p named moment (message words moment) text p' told line h is) [
-      | inl s ↦ inl (record { station = Some s.0; stands = s.1; is = s.2 })
+    (outcome : Option Answer) (text : Option (List ℕ)) (p' : Held) (told : Option Known) (memory : Bool) (line : List ℕ)
+    → Outcomes gives places p words moment outcome text p' told seen memory → line ≡ message_text detail outcome text → IsSent detail places name words moment line
+sent_read detail gives seen places name p named words moment outcome text p' told true line h is =
+    inr (inr (record { reply = h.1.reply; tells = h.1.tells; is = is ∙ (λ i. message_text detail (h.0 i) (h.1.ready.same i)) }))
+sent_read detail gives seen places name p named words moment outcome text p' told false line h is =
+    elim (replied detail gives seen places name p named moment (message words moment) outcome text p' told line h is) [
+      | inl s ↦ inl (record { station = Some s.0; stands = s.1; is = s.2 ∙ ap (λ (x : Script × List ℕ). x.1) (sym (by_detail_is detail s.0 (record start { moment = moment }) words)) })
       | inr e ↦ inr (inl e)
     ]
 
 -- the line of a message that was answered is what a replay answers
-pub sent : {M : Type 0} (gives : ℕ → StationPlace → Command → Answer → Option Known → Option M → Type 0) (seen : Option M)
+pub sent : {M : Type 0} (detail : Detail) (gives : ℕ → StationPlace → Command → Answer → Option Known → Option M → Type 0) (seen : Option M)
     (places : List StationPlace) (name : List ℕ) (p : Held) (named : IsNamed places name p.station) (words : List ℕ) (p' : Held)
     (line : List ℕ)
-    → IsMessageLine gives places p words p' line seen → (moment : ℕ) × IsSent places name words moment line
-sent gives seen places name p named words p' line h = (h.moment, sent_read gives seen places name p named words h.moment h.text p' h.told h.memory line h.answers h.is)
+    → IsMessageLine detail gives places p words p' line seen → (moment : ℕ) × IsSent detail places name words moment line
+sent detail gives seen places name p named words p' line h =
+    (h.moment, sent_read detail gives seen places name p named words h.moment h.outcome h.text p' h.told h.memory line h.outcomes h.is)
 
 -- the line of the answer to a command that was submitted, with what was seen
 pub submitted_line : {M : Type 0} (gives : ℕ → StationPlace → Command → Answer → Option Known → Option M → Type 0)

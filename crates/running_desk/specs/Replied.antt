@@ -1,16 +1,16 @@
 -- The answer to an operator's line: a replay's answer to the same line when it has the desk's stations.
-use Rattle.std.{specs.Prelude.{◌≡◌, ◌⊎◌, ℕ, Bool, false, List, [], Option, None, Some, codes, unwrap_or}, specs.List.{list_any, position}, specs.Str.bytes_eq}
+use Rattle.std.{specs.Prelude.{◌≡◌, ◌⊎◌, ℕ, Bool, false, List, [], Option, None, Some, codes}, specs.List.{list_any, position}, specs.Str.bytes_eq}
 use Rattle.ledger_model.{specs.declared.answer.Answer.Answer, specs.declared.answer.Answer.TheVariants.Refused, specs.declared.answer.Refusal.TheVariants.ChangesExhausted, specs.declared.command.Command.Command, specs.declared.order.Order.Order, specs.declared.order.Order.TheVariants.Sequence, specs.Board.Board, specs.Periods.Periods, specs.Settling.default_periods, specs.Step.Reached, specs.World.Station}
 use Rattle.ledger_model.specs.declared.figures.Figures as figures
 use Rattle.board_report.{specs.Texts.{board_text, total_text}, specs.Running.running_site}
 use Rattle.energy_flow.specs.Flow.{Energy}
 use Rattle.running_desk.{specs.declared.operator.WhichTotals.WhichTotals, specs.declared.operator.WhichTotals.TheVariants.{Figures, Import, Export}}
 use Rattle.ocppj_frame.specs.Frame.{frame}
-use Rattle.script_ledgers.specs.Script.{commanded_to, energy_answer, energy_line, export_answer, export_line, list_answer, mark_line, sent_to, start, total_answer}
-use Rattle.script_lines.{specs.declared.script_line.TxList.TxList, specs.declared.script_line.LineFault.TheVariants.{BadLine, DeclaredLate, UnknownSite, UnknownStation}, specs.LineMeaning.{LineMeaning, nothing, fails, sets_limits, declares, sets_period, sets_order, sets_settle, tells, sends, commands, asks_energy, asks_export, asks_total, asks_board, lists, marks}, specs.Texts.{answer_text, ended_line, fault_line}}
+use Rattle.script_ledgers.{specs.declared.detail.Detail.Detail, specs.declared.detail.Detail.TheVariants.{Outcome, Reply}, specs.Detail.{event_text, message_text, message_to, ready_text}, specs.Script.{asked_line, commanded_to, energy_answer, energy_line, export_answer, export_line, list_answer, mark_line, start, total_answer}}
+use Rattle.script_lines.{specs.declared.script_line.TxList.TxList, specs.declared.script_line.LineFault.TheVariants.{BadLine, DeclaredLate, UnknownSite, UnknownStation}, specs.LineMeaning.{LineMeaning, nothing, fails, sets_limits, declares, sets_period, sets_order, sets_settle, tells, sends, delivers, commands, asks_energy, asks_export, asks_total, asks_board, lists, asks_meaning, marks}, specs.Texts.{answer_text, ended_line, fault_line}}
 use Rattle.site_book.specs.Book.{Known}
 use Rattle.site_desk.{specs.declared.plan.SitePlan.SitePlan, specs.declared.roster.StationPlace.StationPlace, specs.Operator.AreBoardsAt, specs.Roster.IsNamed, specs.Submit.Submitted, specs.Cell.Held}
-use Rattle.station_link.specs.Answer.{Answers, IsGivenAt}
+use Rattle.station_link.specs.Answer.{IsGivenAt, Outcomes}
 use Rattle.transaction_event.{specs.Message.{Meaning, Event, Ready, Silence, message}, specs.MessageMeaning.IsMemoryReply, specs.Reply.event_reply_bytes}
 
 -- A replay may have this station under the name: the desk has a station of the name with these
@@ -121,40 +121,41 @@ IsSubmitted gives places name command text seen =
 abbrev pub IsCommanded : List StationPlace → List ℕ → Command → List ℕ → Type 0
 IsCommanded places name command text = IsOf places name (λ station. (commanded_to station start command).1) text ⊎ (text ≡ ended_line (answer_text (Refused ChangesExhausted)))
 
--- The reply to an event with ChangesExhausted.
-abbrev pub IsExhausted : Meaning → List ℕ → Type 0
-IsExhausted (Event id request) text = text ≡ ended_line (event_reply_bytes id request.token (Refused ChangesExhausted))
-IsExhausted (Ready reply) text = ⊥
-IsExhausted Silence text = ⊥
+-- The text of an event with ChangesExhausted.
+abbrev pub IsExhausted : Detail → Meaning → List ℕ → Type 0
+IsExhausted detail (Event id request) text = text ≡ event_text detail (Refused ChangesExhausted) (event_reply_bytes id request.token (Refused ChangesExhausted))
+IsExhausted detail (Ready reply) text = ⊥
+IsExhausted detail Silence text = ⊥
 
--- The reply that there was no memory to read the words.
-pub record TellsMemory (words text : List ℕ) : Type 0 where
+-- The text has the reply that there was no memory to read the words.
+pub record TellsMemory (detail : Detail) (words text : List ℕ) : Type 0 where
   pub reply : List ℕ
   pub tells : IsMemoryReply (frame words) reply
-  pub is : text ≡ ended_line reply
+  pub is : text ≡ ready_text detail reply
 
--- The answer to a station's words at a moment; it may also be ChangesExhausted whatever the content
--- is, or that there was no memory to read the words.
-abbrev pub IsSent : List StationPlace → List ℕ → List ℕ → ℕ → List ℕ → Type 0
-IsSent places name words moment text =
-    IsOf places name (λ station. (sent_to station (record start { moment = moment }) words).1) text
-    ⊎ (IsExhausted (message words moment) text ⊎ TellsMemory words text)
+-- The answer to a line `msg` or `deliver` with a station's words at a moment; it may also be ChangesExhausted whatever
+-- the content is, or that there was no memory to read the words.
+abbrev pub IsSent : Detail → List StationPlace → List ℕ → List ℕ → ℕ → List ℕ → Type 0
+IsSent detail places name words moment text =
+    IsOf places name (λ station. (message_to detail station (record start { moment = moment }) words).1) text
+    ⊎ (IsExhausted detail (message words moment) text ⊎ TellsMemory detail words text)
 
 -- A station's words were answered with a pass at some moment, the line has that answer, and what was seen belongs to
 -- it.
-pub record IsMessageLine {M : Type 0} (gives : ℕ → StationPlace → Command → Answer → Option Known → Option M → Type 0)
+pub record IsMessageLine {M : Type 0} (detail : Detail) (gives : ℕ → StationPlace → Command → Answer → Option Known → Option M → Type 0)
     (places : List StationPlace) (p : Held) (words : List ℕ) (p' : Held) (line : List ℕ) (seen : Option M) : Type 0 where
   pub moment : ℕ
+  pub outcome : Option Answer
   pub text : Option (List ℕ)
   pub told : Option Known
   pub memory : Bool
-  pub answers : Answers gives places p words moment text p' told seen memory
-  pub is : line ≡ ended_line (unwrap_or text (codes "silent"))
+  pub outcomes : Outcomes gives places p words moment outcome text p' told seen memory
+  pub is : line ≡ message_text detail outcome text
 
 -- The words were answered with a pass of the station of this name; or there is no such station, and the text says so.
-abbrev pub IsMessaged : {M : Type 0} → (ℕ → StationPlace → Command → Answer → Option Known → Option M → Type 0) → List StationPlace → List ℕ → List ℕ → List ℕ → Option M → Type 0
-IsMessaged gives places name words text seen =
-    ((p p' : Held) × IsNamed places name p.station × IsMessageLine gives places p words p' text seen)
+abbrev pub IsMessaged : {M : Type 0} → Detail → (ℕ → StationPlace → Command → Answer → Option Known → Option M → Type 0) → List StationPlace → List ℕ → List ℕ → List ℕ → Option M → Type 0
+IsMessaged detail gives places name words text seen =
+    ((p p' : Held) × IsNamed places name p.station × IsMessageLine detail gives places p words p' text seen)
     ⊎ ((list_any (λ s. bytes_eq name s.name) places ≡ false) × (text ≡ fault_line UnknownStation))
 
 -- The answer to an operator's line at a desk of these sites and stations, by what the line says,
@@ -170,13 +171,15 @@ IsReply gives shows sites places (sets_period site seconds) text seen = text ≡
 IsReply gives shows sites places (sets_order site order) text seen = text ≡ fault_line DeclaredLate
 IsReply gives shows sites places (sets_settle site rule) text seen = text ≡ fault_line DeclaredLate
 IsReply gives shows sites places (tells nanos) text seen = text ≡ fault_line BadLine
-IsReply gives shows sites places (sends name words) text seen = ((moment : ℕ) × IsSent places name words moment text) × IsMessaged gives places name words text seen
+IsReply gives shows sites places (sends name words) text seen = ((moment : ℕ) × IsSent Reply places name words moment text) × IsMessaged Reply gives places name words text seen
+IsReply gives shows sites places (delivers name words) text seen = ((moment : ℕ) × IsSent Outcome places name words moment text) × IsMessaged Outcome gives places name words text seen
 IsReply gives shows sites places (commands name command) text seen = IsCommanded places name command text × IsSubmitted gives places name command text seen
 IsReply gives shows sites places (asks_energy name) text seen = IsTotals places name Import text
 IsReply gives shows sites places (asks_export name) text seen = IsTotals places name Export text
 IsReply gives shows sites places (asks_total name) text seen = IsTotals places name Figures text
 IsReply gives shows sites places (asks_board name) text seen = IsBoard shows sites places (position (λ s. bytes_eq name s.name) sites) text seen
 IsReply gives shows sites places (lists what name tx) text seen = IsList places what name tx text
+IsReply gives shows sites places (asks_meaning words) text seen = (moment : ℕ) × (text ≡ asked_line (message words moment))
 IsReply gives shows sites places (marks word) text seen = text ≡ mark_line word
 
 -- An operator's line gets this answer, or `fault OutOfMemory`.

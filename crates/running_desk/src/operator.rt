@@ -3,6 +3,8 @@ ghost use Rattle.std.{specs.Prelude.{◌≡◌, ℕ, List, [], ◌++◌, IfOk, O
 ghost use Rattle.script_lines.{specs.LineMeaning.{commands, line_meaning}, specs.Lines.line_bytes, specs.declared.script_line.LineFault.LineFault, specs.Texts.fault_line};
 ghost use Rattle.site_desk.{specs.declared.roster.StationPlace.StationPlace, specs.Roster.IsNamed};
 ghost use Rattle.running_desk.{specs.Replied.{IsBoard, IsCommandLine, IsCommanded, IsList, IsMessageLine, IsMessaged, IsReply, IsSent, IsSubmitted, IsTotals, totals_line}, specs.Ordered.{ends, lines_in}, specs.Replies.{AddsReplies, AddsReply}};
+ghost use Rattle.script_ledgers.specs.Script.{asked_line};
+ghost use Rattle.transaction_event.specs.Message.{message};
 ghost use Rattle.station_link.{specs.Attended.if_seen, specs.declared.ending.Why.Why};
 
 use crate::fault::ServiceFault;
@@ -14,7 +16,7 @@ use board_report::{BoardsFault, energy_text, export_text, total_text, write_out}
 use energy_flow::{Flow, Work};
 use gathered_input::Readiness;
 use ledger_model::{Command, Figures, Name, TxId};
-use script_ledgers::{put_listed, put_mark};
+use script_ledgers::{Detail, put_asked, put_listed, put_mark, put_message_text};
 use script_lines::{LineFault, ScriptLine, TxList, put_answer, put_fault, put_line, read_line};
 use site_desk::{BoardFault, NoGate, Pass};
 use station_link::{Why, answer_text, present};
@@ -32,7 +34,7 @@ const NO_MEMORY: &[u8] = b"fault OutOfMemory\n";
 
 // The greatest length of the answer to a message or a command; room for it is made before anything
 // changes.
-const MOST_ANSWER: usize = 513;
+const MOST_ANSWER: usize = 542;
 
 // The answer to a line if what is behind its station's or its site's locks is not as it should be, which no run
 // meets.
@@ -99,7 +101,12 @@ impl<S: Serves, R: Threads + Wait + Clock> Running<'_, S, R> {
             (line_meaning (line_bytes line.entry)) reply.new.items seen) }
     {
         match read_line(line) {
-            ScriptLine::Sends(name, text) => return self.receive(&name, text, reply),
+            ScriptLine::Sends(name, text) => {
+                return self.receive(&name, text, Detail::Reply, reply);
+            }
+            ScriptLine::Delivers(name, text) => {
+                return self.receive(&name, text, Detail::Outcome, reply);
+            }
             ScriptLine::Commands(name, what) => {
                 return self.put_command(&name, what, line, reply);
             }
@@ -116,20 +123,27 @@ impl<S: Serves, R: Threads + Wait + Clock> Running<'_, S, R> {
             ScriptLine::AsksExport(name) => self.put_totals(&name, WhichTotals::Export, reply)?,
             ScriptLine::AsksTotal(name) => self.put_totals(&name, WhichTotals::Figures, reply)?,
             ScriptLine::Lists(what, name, tx) => self.put_list(what, &name, &tx, reply)?,
+            ScriptLine::AsksMeaning(text) => self.put_meaning(text, reply)?,
             ScriptLine::Marks(word) => put_mark(reply, &word)?,
         }
         Ok(None)
     }
 
-    // Delivers a message of the station of this name at the clock's moment, and appends its reply.
-    fn receive(&self, name: &Name, text: &str, reply: &mut Vec<u8>) -> Answered<S::Seen>
+    // Delivers a message of the station of this name at the clock's moment, and appends the text of its line.
+    fn receive(
+        &self,
+        name: &Name,
+        text: &str,
+        detail: Detail,
+        reply: &mut Vec<u8>,
+    ) -> Answered<S::Seen>
         requires { reply.old.items ≡ [] }
-        ensures sent { OnOk result ((moment : ℕ) × IsSent self.now.desk.now.stations name.now text.now moment reply.new.items) }
-        ensures messaged { IfOk result (λ seen. IsMessaged S.gives self.now.desk.now.stations name.now text.now reply.new.items seen) }
+        ensures sent { OnOk result ((moment : ℕ) × IsSent detail self.now.desk.now.stations name.now text.now moment reply.new.items) }
+        ensures messaged { IfOk result (λ seen. IsMessaged detail S.gives self.now.desk.now.stations name.now text.now reply.new.items seen) }
     {
         match self.pass_of(name) {
             Ok(mut pass) => {
-                let delivered = self.deliver(&mut pass, text, reply);
+                let delivered = self.deliver(&mut pass, text, detail, reply);
                 let _lost = self.lay(pass);
                 delivered
             }
@@ -140,19 +154,32 @@ impl<S: Serves, R: Threads + Wait + Clock> Running<'_, S, R> {
         }
     }
 
-    // Delivers a message with a pass, and appends its reply.
-    fn deliver(&self, pass: &mut Pass, text: &str, reply: &mut Vec<u8>) -> Answered<S::Seen>
+    // Delivers a message with a pass, and appends the text of its line.
+    fn deliver(
+        &self,
+        pass: &mut Pass,
+        text: &str,
+        detail: Detail,
+        reply: &mut Vec<u8>,
+    ) -> Answered<S::Seen>
         requires { reply.old.items ≡ [] }
-        ensures { IfOk result (λ seen. IsMessageLine S.gives self.now.desk.now.stations pass.old text.now pass.new reply.new.items seen) }
+        ensures { IfOk result (λ seen. IsMessageLine detail S.gives self.now.desk.now.stations pass.old text.now pass.new reply.new.items seen) }
     {
         reply.reserve(MOST_ANSWER)?;
         let now = present(&mut SystemMoments { rt: self.rt });
         let answered = answer_text(self.serves, self.rt, self.alloc, pass, text, now, &NoGate);
-        match answered.text {
-            Some(text) => put_line(reply, text.as_str())?,
-            None => put_line(reply, "silent")?,
-        }
+        let text = answered.text.as_ref().map(|text| text.as_str());
+        put_message_text(reply, detail, answered.outcome, text)?;
         Ok(answered.seen)
+    }
+
+    // Appends what a text asks for at the clock's moment.
+    fn put_meaning(&self, text: &str, reply: &mut Vec<u8>) -> Result<(), AllocError>
+        requires { reply.old.items ≡ [] }
+        ensures { OnOk result ((moment : ℕ) × (reply.new.items ≡ asked_line (message text.now moment))) }
+    {
+        let now = present(&mut SystemMoments { rt: self.rt });
+        put_asked(self.alloc, reply, text, now)
     }
 
     // Submits an operator's command on the station of this name, and appends its answer.

@@ -3,7 +3,7 @@ use Rattle.std.{proofs.Common.{◌≡◌, ◌≢◌, ℕ, zero, suc, ◌+◌, �
 use Rattle.ledger_model.{specs.Periods.Periods, specs.declared.order.Order.Order, specs.Board.{Board, board_by, figures_by, site_board, sum_of_figures}, specs.Content.entries, specs.Posts.row_after, specs.World.{Station, World}}
 use Rattle.board_report.{specs.Named.NamedBoard, specs.Boards.boards_at, proofs.SiteBoards.{boards_more_no, boards_more_yes, stands}}
 use Rattle.site_book.specs.Book.{Book}
-use Rattle.site_desk.{specs.declared.plan.SitePlan.SitePlan, specs.declared.plan.StationPlan.StationPlan, specs.Parts.{limits_at, row_at}, specs.Plan.{has_twice, order_at}, proofs.Rows.{limits_more_no, limits_more_yes}, specs.Cell.{Cell, Held}}
+use Rattle.site_desk.{specs.declared.plan.SitePlan.SitePlan, specs.declared.plan.StationPlan.StationPlan, specs.Parts.{limits_at, row_at}, specs.Plan.{has_twice, order_at}, proofs.Rows.{limits_more_no, limits_more_yes}, specs.Cell.{Cell, Tallied}}
 use Rattle.script_ledgers.{specs.Drafts.{Drafted, planned_world, site_name}, specs.Running.{IsRunning, filled}, specs.Script.{shown_site, shown_station, stations_of}, proofs.Places.{neither, none_placed, some_placed}}
 
 -- ---- the totals of a book
@@ -16,8 +16,8 @@ count_is site ys = sym (length-filter (λ (s : StationPlan). eqb s.site site) ys
 row_is : (xs : List StationPlan) (site n : ℕ) → row_at xs site n ≡ length (limits_at (take n xs) site)
 row_is xs site n = count_is site (take n xs)
 
-module _ (d : Drafted) (cells : List Cell) (books : List Book) (passes : List Held)
-    (r : IsRunning d.sites d.stations cells books passes) (period : Periods) (site : ℕ) (b : Book)
+module _ (d : Drafted) (cells : List Cell) (books : List Book) (tallies : List Tallied)
+    (r : IsRunning d.sites d.stations cells books tallies) (period : Periods) (site : ℕ) (b : Book)
     (book : slice_get books site ≡ Some b) where
   abbrev order : Order
   order = order_at d.sites site

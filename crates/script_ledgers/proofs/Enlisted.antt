@@ -1,6 +1,6 @@
--- Cells that give their first passes, one after the other.
+-- Cells that give their first tallies, one after the other.
 use Rattle.std.{proofs.Common.{◌≡◌, ℕ, zero, suc, ◌+◌, ◌<◌, ◌≤◌, List, [], ◌∷◌, ◌++◌, Result, Ok, All, length, map, take, drop, set, get_or, refl, subst, ap, sym, ◌∙◌, append-nil, arith}, specs.Prelude.{IfOk, OnOk}, proofs.lemmas.List.{map-append, take_all, drop_all, take_more}}
-use Rattle.site_desk.specs.Cell.{Cell, Held, new_pass}
+use Rattle.site_desk.specs.Cell.{Cell, Tallied, new_tally}
 
 module _ {X : Type 0} (f : X → X) where
   -- the first i elements are changed
@@ -28,19 +28,19 @@ abbrev pub first_given : Cell → Cell
 first_given c = record c { counts = 0 ∷ [] }
 
 -- the first pass of one cell more
-pub enlisted_step : (old items : List Cell) (i : ℕ) (passes more : List Held) (x c : Cell) (p : Held) → All (λ d. d.counts ≡ []) old → i < length old → items ≡ turned first_given i old
-    → passes ≡ map (λ d. new_pass d.station 0) (take i old) → c ≡ record (get_or items i x) { counts = (get_or items i x).counts ++ 0 ∷ [] }
-    → p ≡ new_pass (get_or items i x).station (length (get_or items i x).counts) → more ≡ passes ++ p ∷ []
-    → (set items i c ≡ turned first_given (i + 1) old) × (more ≡ map (λ d. new_pass d.station 0) (take (i + 1) old))
-enlisted_step old items i passes more x c p all less items_are passes_are cell_is pass_is more_is =
+pub enlisted_step : (old items : List Cell) (i : ℕ) (tallies more : List Tallied) (x c : Cell) (p : Tallied) → All (λ d. d.counts ≡ []) old → i < length old → items ≡ turned first_given i old
+    → tallies ≡ map (λ d. new_tally d.station 0) (take i old) → c ≡ record (get_or items i x) { counts = (get_or items i x).counts ++ 0 ∷ [] }
+    → p ≡ new_tally (get_or items i x).station (length (get_or items i x).counts) → more ≡ tallies ++ p ∷ []
+    → (set items i c ≡ turned first_given (i + 1) old) × (more ≡ map (λ d. new_tally d.station 0) (take (i + 1) old))
+enlisted_step old items i tallies more x c p all less items_are tallies_are cell_is pass_is more_is =
     let same : get_or items i x ≡ get_or old i x = ap (λ l. get_or l i x) items_are ∙ turned_at first_given old i x less in
     let none : (get_or old i x).counts ≡ [] = all i x less in
     let cell : c ≡ first_given (get_or old i x) = cell_is ∙ (λ j. record (same j) { counts = (same j).counts ++ 0 ∷ [] })
     ∙ ap (λ (k : List ℕ). record (get_or old i x) { counts = k ++ 0 ∷ [] }) none in
-    let pass : p ≡ new_pass (get_or old i x).station 0 = pass_is ∙ (λ j. new_pass (same j).station (length (same j).counts)) ∙ ap (λ (k : List ℕ). new_pass (get_or old i x).station (length k)) none in
-    let to : Cell → Held = λ d. new_pass d.station 0 in (
+    let pass : p ≡ new_tally (get_or old i x).station 0 = pass_is ∙ (λ j. new_tally (same j).station (length (same j).counts)) ∙ ap (λ (k : List ℕ). new_tally (get_or old i x).station (length k)) none in
+    let to : Cell → Tallied = λ d. new_tally d.station 0 in (
       (λ j. set (items_are j) i (cell j)) ∙ turned_more first_given old i x less,
-      more_is ∙ (λ j. passes_are j ++ pass j ∷ []) ∙ sym (ap (map to) (take_more old i x less) ∙ map-append to (take i old) (get_or old i x ∷ [])),
+      more_is ∙ (λ j. tallies_are j ++ pass j ∷ []) ∙ sym (ap (map to) (take_more old i x less) ∙ map-append to (take i old) (get_or old i x ∷ [])),
     )
 
 -- what a call that succeeded ensures

@@ -2,7 +2,7 @@
 use Rattle.std.{proofs.Common.{◌≡◌, ℕ, zero, suc, List, [], ◌∷◌, Some, All, length, map, refl, subst, ap, sym, ◌∙◌, arith}, specs.Prelude.slice_get, proofs.lemmas.List.length-map, proofs.lemmas.List.Sums.sum_by-cons, proofs.lemmas.Option.{get_or_from_slice_get, slice_get_within}}
 use Rattle.ledger_model.specs.Content.{empty_content}
 use Rattle.site_book.specs.Book.{Book}
-use Rattle.site_desk.{specs.declared.plan.SitePlan.SitePlan, specs.declared.plan.StationPlan.StationPlan, specs.Parts.{AreApart, AreNewBooks, AreNewCells, AreTied, limits_at, new_book, row_at}, specs.Plan.{order_at, period_at}, specs.Cell.{Cell, Held, Knows, new_cell, new_pass}, specs.Settle.{Holds, Tied}}
+use Rattle.site_desk.{specs.declared.plan.SitePlan.SitePlan, specs.declared.plan.StationPlan.StationPlan, specs.Parts.{AreApart, AreNewBooks, AreNewCells, AreTied, limits_at, new_book, row_at}, specs.Plan.{order_at, period_at}, specs.Cell.{Cell, Tallied, Knows, new_cell, new_tally}, specs.Settle.{Holds, Tied}}
 use Rattle.board_report.proofs.SiteBoards.{some_same, stands}
 use Rattle.script_ledgers.{specs.Drafts.{IsPlan, planned_world, site_name}, specs.Running.{IsPlaced, IsRunning, IsShown, filled, posts_in}, specs.Script.new_station, proofs.Enlisted.first_given}
 
@@ -18,9 +18,9 @@ mapped_from f [] k y at = absurd (cc at)
 mapped_from f (x ∷ xs) zero y at = (x, (refl, some_same (f x) y at))
 mapped_from f (x ∷ xs) (suc k) y at = mapped_from f xs k y at
 
-module _ (sites : List SitePlan) (stations : List StationPlan) (old : List Cell) (books : List Book) (cells : List Cell) (passes : List Held)
+module _ (sites : List SitePlan) (stations : List StationPlan) (old : List Cell) (books : List Book) (cells : List Cell) (tallies : List Tallied)
     (plan : IsPlan sites stations) (new : AreNewCells sites stations old) (made : AreNewBooks stations (length sites) books) (tied : AreTied old books) (apart : AreApart old)
-    (cells_are : cells ≡ map first_given old) (passes_are : passes ≡ map (λ (c : Cell). new_pass c.station 0) old) where
+    (cells_are : cells ≡ map first_given old) (tallies_are : tallies ≡ map (λ (c : Cell). new_tally c.station 0) old) where
   -- what a cell was before it gave its pass
   was : (k : ℕ) (c : Cell) → slice_get cells k ≡ Some c → (o : Cell) × ((slice_get old k ≡ Some o) × (first_given o ≡ c))
   was k c at = mapped_from first_given old k c (ap (λ l. slice_get l k) (sym cells_are) ∙ at)
@@ -39,12 +39,12 @@ module _ (sites : List SitePlan) (stations : List StationPlan) (old : List Cell)
       let is : new_book stations site ≡ b = some_same (new_book stations site) b (sym (made.each site (omega (arith, less, made.count))) ∙ at) in
       ap (λ (x : Book). x.limits) (sym is)
 
-  known_new : (k : ℕ) (c : Cell) (p : Held) → slice_get cells k ≡ Some c → slice_get passes k ≡ Some p → Knows c p
+  known_new : (k : ℕ) (c : Cell) (p : Tallied) → slice_get cells k ≡ Some c → slice_get tallies k ≡ Some p → Knows c p
   known_new k c p at has =
       let o = was k c at in
-      let q = mapped_from (λ (x : Cell). new_pass x.station 0) old k p (ap (λ l. slice_get l k) (sym passes_are) ∙ has) in
+      let q = mapped_from (λ (x : Cell). new_tally x.station 0) old k p (ap (λ l. slice_get l k) (sym tallies_are) ∙ has) in
       let same : o.0 ≡ q.0 = some_same o.0 q.0 (sym o.1.0 ∙ q.1.0) in
-      let pass : new_pass o.0.station 0 ≡ p = ap (λ (x : Cell). new_pass x.station 0) same ∙ q.1.1 in
+      let pass : new_tally o.0.station 0 ≡ p = ap (λ (x : Cell). new_tally x.station 0) same ∙ q.1.1 in
       subst (λ x. Knows x p) o.1.1 (subst (Knows (first_given o.0)) pass (record { station = refl; count = refl }))
 
   shown_new : (k : ℕ) (c : Cell) (b : Book) → slice_get cells k ≡ Some c → slice_get books c.site ≡ Some b → IsShown c b
@@ -61,12 +61,12 @@ module _ (sites : List SitePlan) (stations : List StationPlan) (old : List Cell)
       let p = was k d there in
       apart j k o.0 p.0 o.1.0 p.1.0 (ap (λ (x : Cell). x.site) o.1.1 ∙ site ∙ sym (ap (λ (x : Cell). x.site) p.1.1)) (ap (λ (x : Cell). x.row) o.1.1 ∙ row ∙ sym (ap (λ (x : Cell). x.row) p.1.1))
 
-  pub opened_running : IsRunning sites stations cells books passes
+  pub opened_running : IsRunning sites stations cells books tallies
   opened_running = record {
     plan = plan;
     all_cells = ap length cells_are ∙ length-map old first_given ∙ new.count;
     all_books = made.count;
-    all_passes = ap length passes_are ∙ length-map old (λ (c : Cell). new_pass c.station 0) ∙ new.count;
+    all_tallies = ap length tallies_are ∙ length-map old (λ (c : Cell). new_tally c.station 0) ∙ new.count;
     placed = placed_new;
     books_are = books_new;
     known = known_new;

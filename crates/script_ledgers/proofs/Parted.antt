@@ -2,7 +2,7 @@
 use Rattle.std.{proofs.Common.{◌≡◌, true, cond, not, leb, ltb, List, Some, None, map, length, ap, ◌∙◌, arith}, specs.Prelude.sum_by, specs.List.list_all, proofs.lemmas.Bool.and_from, proofs.lemmas.Bool.Decides.nat_tests, proofs.lemmas.List.Sums.list_all-from_AllPass}
 use Rattle.ledger_model.specs.Ranges.{most_plan_readings}
 use Rattle.site_book.specs.Book.{Book}
-use Rattle.site_desk.{specs.declared.fault.DeskFault.TheVariants.{PlanLimit, StationTwice}, specs.declared.plan.SitePlan.SitePlan, specs.declared.plan.StationPlan.StationPlan, specs.Plan.{has_twice, is_within_limits, most_viewers, plan_fault}, specs.Roster.AreCellsOf, specs.Cell.{Cell, Held}}
+use Rattle.site_desk.{specs.declared.fault.DeskFault.TheVariants.{PlanLimit, StationTwice}, specs.declared.plan.SitePlan.SitePlan, specs.declared.plan.StationPlan.StationPlan, specs.Plan.{has_twice, is_within_limits, most_viewers, plan_fault}, specs.Roster.AreCellsOf, specs.Cell.{Cell, Tallied}}
 use Rattle.script_ledgers.{specs.Drafts.IsPlan, specs.Running.IsRunning}
 
 -- a plan of declarations has no fault
@@ -18,9 +18,9 @@ faultless sites stations plan =
     ∙ ap (λ b. cond b (Some StationTwice) None) plan.stations_once
 
 -- each cell is where the plan has its station
-pub cells_of : (sites : List SitePlan) (stations : List StationPlan) (cells : List Cell) (books : List Book) (passes : List Held)
-    → IsRunning sites stations cells books passes → AreCellsOf sites stations cells
-cells_of sites stations cells books passes r = record {
+pub cells_of : (sites : List SitePlan) (stations : List StationPlan) (cells : List Cell) (books : List Book) (tallies : List Tallied)
+    → IsRunning sites stations cells books tallies → AreCellsOf sites stations cells
+cells_of sites stations cells books tallies r = record {
   count = r.all_cells;
   each = λ k s c planned at.
       let place = r.placed k s c planned at in

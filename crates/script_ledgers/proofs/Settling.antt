@@ -2,21 +2,21 @@
 use Rattle.std.{proofs.Common.{◌≡◌, ◌≢◌, ℕ, zero, suc, ◌<◌, ◌≤◌, true, false, cond, List, [], ◌∷◌, Some, length, map, set, refl, subst, ap, sym, ◌∙◌, bytes_eq, arith, ⊎_elim}, specs.Prelude.{IfSome, slice_get}, specs.List.list_any, proofs.lemmas.List.length-set, proofs.lemmas.List.Sums.sum_by-set, proofs.lemmas.Bool.cases_eq, proofs.lemmas.Option.{get_or_from_slice_get, slice_get_within}, proofs.lemmas.Slice.Eq.bytes_eq-Decides}
 use Rattle.ledger_model.{specs.declared.answer.Answer.Answer, specs.declared.command.Command.Command, specs.Content.Content, specs.Step.{answer, step}, specs.World.{Station, World, station_after, world_after}}
 use Rattle.site_book.{specs.Book.Book, proofs.Named.{get_else, get_here}}
-use Rattle.site_desk.{specs.declared.plan.SitePlan.SitePlan, specs.declared.plan.StationPlan.StationPlan, specs.Parts.{AreTied, limits_at}, specs.Plan.has_twice, proofs.Ties.{apart_step, tied_step}, specs.Cell.{Cell, Held, Knows}, specs.Settle.{Holds, Tied, cell_after, posts_after}}
+use Rattle.site_desk.{specs.declared.plan.SitePlan.SitePlan, specs.declared.plan.StationPlan.StationPlan, specs.Parts.{AreTied, limits_at}, specs.Plan.has_twice, proofs.Ties.{apart_step, tied_step}, specs.Cell.{Cell, Held, Tallied, Knows}, specs.Settle.{Holds, Tied, cell_after, posts_after}}
 use Rattle.board_report.proofs.SiteBoards.{some_same, stands}
 use Rattle.script_ledgers.{specs.Drafts.{Drafted, planned_world, site_name}, specs.Running.{IsPlaced, IsRunning, IsShown, Settles, filled, posts_in, running}, specs.Script.new_station, proofs.Places.{AreAlike, differ_back, neither}}
 
-module _ (sites : List SitePlan) (stations : List StationPlan) (cells : List Cell) (books : List Book) (passes : List Held) (r : IsRunning sites stations cells books passes) where
+module _ (sites : List SitePlan) (stations : List StationPlan) (cells : List Cell) (books : List Book) (tallies : List Tallied) (r : IsRunning sites stations cells books tallies) where
   -- ---- what holds of one station
 
-  -- a station, its cell, its pass and its site's book
+  -- a station, its cell, its tally and its site's book
   pub record IsHere (k : ℕ) : Type 0 where
     pub planned : StationPlan
     pub is_planned : slice_get stations k ≡ Some planned
     pub cell : Cell
     pub is_cell : slice_get cells k ≡ Some cell
-    pub pass : Held
-    pub is_pass : slice_get passes k ≡ Some pass
+    pub tally : Tallied
+    pub is_tally : slice_get tallies k ≡ Some tally
     pub book : Book
     pub is_book : slice_get books cell.site ≡ Some book
 
@@ -30,10 +30,10 @@ module _ (sites : List SitePlan) (stations : List StationPlan) (cells : List Cel
   here k less =
       let s = stands stations k less in
       let c = stands cells k (omega (arith, less, r.all_cells)) in
-      let p = stands passes k (omega (arith, less, r.all_passes)) in
+      let p = stands tallies k (omega (arith, less, r.all_tallies)) in
       let site : c.0.site < length books = omega (arith, (r.placed k s.0 c.0 s.1 c.1).site, site_within k s.0 s.1, r.all_books) in
       let b = stands books c.0.site site in
-      record { planned = s.0; is_planned = s.1; cell = c.0; is_cell = c.1; pass = p.0; is_pass = p.1; book = b.0; is_book = b.1 }
+      record { planned = s.0; is_planned = s.1; cell = c.0; is_cell = c.1; tally = p.0; is_tally = p.1; book = b.0; is_book = b.1 }
 
   pub site_in_books : (k : ℕ) (c : Cell) → slice_get cells k ≡ Some c → c.site < length books
   site_in_books k c at =
@@ -58,9 +58,9 @@ module _ (sites : List SitePlan) (stations : List StationPlan) (cells : List Cel
 
   -- ---- after a command on one station
 
-  module _ (k : ℕ) (c c' : Cell) (p p' : Held) (b b' : Book) (command : Command) (a : Answer) (at : slice_get cells k ≡ Some c)
-      (held : slice_get passes k ≡ Some p) (book : slice_get books c.site ≡ Some b)
-      (cell_is : c' ≡ cell_after c p command) (book_is : b' ≡ record b { posts = posts_after b.posts c' a }) (answer_is : a ≡ answer c.limits c.content command) (known : Knows c' p') where
+  module _ (k : ℕ) (c c' : Cell) (p : Held) (u u' : Tallied) (b b' : Book) (command : Command) (a : Answer) (at : slice_get cells k ≡ Some c)
+      (held : slice_get tallies k ≡ Some u) (book : slice_get books c.site ≡ Some b)
+      (cell_is : c' ≡ cell_after c p command) (book_is : b' ≡ record b { posts = posts_after b.posts c' a }) (answer_is : a ≡ answer c.limits c.content command) (known : Knows c' u') where
     tied_then : AreTied (set cells k c') (set books c.site b')
     tied_then = tied_step cells books k c c' b b' p command a at book cell_is book_is answer_is are_tied r.apart
 
@@ -83,13 +83,13 @@ module _ (sites : List SitePlan) (stations : List StationPlan) (cells : List Cel
         (λ (other : j ≢ k). r.placed j s d planned (sym (get_else cells k j c' other) ∙ is))
         (cases_eq j k)
 
-    known_then : (j : ℕ) (d : Cell) (q : Held) → slice_get (set cells k c') j ≡ Some d → slice_get (set passes k p') j ≡ Some q → Knows d q
+    known_then : (j : ℕ) (d : Cell) (q : Tallied) → slice_get (set cells k c') j ≡ Some d → slice_get (set tallies k u') j ≡ Some q → Knows d q
     known_then j d q is has = ⊎_elim
         (λ (e : j ≡ k).
         let same : c' ≡ d = some_same c' d (sym (get_here cells k c c' at) ∙ ap (slice_get (set cells k c')) (sym e) ∙ is) in
-        let same_pass : p' ≡ q = some_same p' q (sym (get_here passes k p p' held) ∙ ap (slice_get (set passes k p')) (sym e) ∙ has) in
-        subst (λ x. Knows x q) same (subst (Knows c') same_pass known))
-        (λ (other : j ≢ k). r.known j d q (sym (get_else cells k j c' other) ∙ is) (sym (get_else passes k j p' other) ∙ has))
+        let same_tally : u' ≡ q = some_same u' q (sym (get_here tallies k u u' held) ∙ ap (slice_get (set tallies k u')) (sym e) ∙ has) in
+        subst (λ x. Knows x q) same (subst (Knows c') same_tally known))
+        (λ (other : j ≢ k). r.known j d q (sym (get_else cells k j c' other) ∙ is) (sym (get_else tallies k j u' other) ∙ has))
         (cases_eq j k)
 
     books_then : (site : ℕ) (x : Book) → slice_get (set books c.site b') site ≡ Some x → x.limits ≡ limits_at stations site
@@ -106,12 +106,12 @@ module _ (sites : List SitePlan) (stations : List StationPlan) (cells : List Cel
         let same : t.book ≡ x = some_same t.book x (sym t.there ∙ has) in
         record { held = subst (Holds d) same t.held; tied = subst (Tied d) same t.tied }
 
-    pub still_running : IsRunning sites stations (set cells k c') (set books c.site b') (set passes k p')
+    pub still_running : IsRunning sites stations (set cells k c') (set books c.site b') (set tallies k u')
     still_running = record {
       plan = r.plan;
       all_cells = length-set cells k c' ∙ r.all_cells;
       all_books = length-set books c.site b' ∙ r.all_books;
-      all_passes = length-set passes k p' ∙ r.all_passes;
+      all_tallies = length-set tallies k u' ∙ r.all_tallies;
       placed = placed_then;
       books_are = books_then;
       known = known_then;
@@ -191,11 +191,11 @@ planned_at sites (x ∷ stations) zero s at = ap (λ (y : StationPlan). Some (ne
 planned_at sites (x ∷ stations) (suc k) s at = planned_at sites stations k s at
 
 -- a command that was settled takes the step of the script's station
-pub settles : (d : Drafted) (cells : List Cell) (books : List Book) (passes : List Held)
-    (r : IsRunning d.sites d.stations cells books passes) (k : ℕ) (c c' : Cell) (p : Held) (command : Command) (a : Answer)
+pub settles : (d : Drafted) (cells : List Cell) (books : List Book) (tallies : List Tallied)
+    (r : IsRunning d.sites d.stations cells books tallies) (k : ℕ) (c c' : Cell) (p : Held) (command : Command) (a : Answer)
     → slice_get cells k ≡ Some c → c' ≡ cell_after c p command → a ≡ answer c.limits c.content command
     → IfSome (slice_get (filled (planned_world d.sites d.stations) cells) k) (λ s. Settles (running d cells) (running d (set cells k c')) s command a)
-settles d cells books passes r k c c' p command a at is answered =
+settles d cells books tallies r k c c' p command a at is answered =
     let less : k < length d.stations = omega (arith, slice_get_within cells k c at, r.all_cells) in
     let s = stands d.stations k less in
     let place = r.placed k s.0 c s.1 at in

@@ -2,7 +2,7 @@
 use Rattle.std.specs.Prelude.{◌≡◌, ℕ, true, List, [], ◌∷◌, length, map, sum_by, Some, IfSome, slice_get}
 use Rattle.ledger_model.{specs.declared.answer.Answer.Answer, specs.declared.command.Command.Command, specs.Step.answer, specs.World.{Station, World, world_after}}
 use Rattle.site_book.specs.Book.{Book}
-use Rattle.site_desk.{specs.declared.plan.SitePlan.SitePlan, specs.declared.plan.StationPlan.StationPlan, specs.Parts.{AreApart, limits_at, row_at}, specs.Plan.{order_at, period_at}, specs.Cell.{Cell, Held, Knows}, specs.Settle.{Holds, Tied}}
+use Rattle.site_desk.{specs.declared.plan.SitePlan.SitePlan, specs.declared.plan.StationPlan.StationPlan, specs.Parts.{AreApart, limits_at, row_at}, specs.Plan.{order_at, period_at}, specs.Cell.{Cell, Held, Knows, Tallied, tally_of}, specs.Settle.{Holds, Tied}}
 use Rattle.script_ledgers.{specs.Drafts.{Drafted, IsPlan, planned_world}, specs.Script.Script}
 
 -- The stations, with the contents of their cells.
@@ -42,17 +42,17 @@ pub record IsShown (c : Cell) (b : Book) : Type 0 where
   pub held : Holds c b
   pub tied : Tied c b
 
--- What the opened ledgers keep: a cell and a pass for each station and a book for each site, in the
--- plan's order; each cell knows its pass; its row in its site's book belongs to no other cell and
+-- What the opened ledgers keep: a cell and a tally for each station and a book for each site, in the
+-- plan's order; each cell knows its tally; its row in its site's book belongs to no other cell and
 -- shows the figures of its content.
-pub record IsRunning (sites : List SitePlan) (stations : List StationPlan) (cells : List Cell) (books : List Book) (passes : List Held) : Type 0 where
+pub record IsRunning (sites : List SitePlan) (stations : List StationPlan) (cells : List Cell) (books : List Book) (tallies : List Tallied) : Type 0 where
   pub plan : IsPlan sites stations
   pub all_cells : length cells ≡ length stations
   pub all_books : length books ≡ length sites
-  pub all_passes : length passes ≡ length stations
+  pub all_tallies : length tallies ≡ length stations
   pub placed : (k : ℕ) (s : StationPlan) (c : Cell) → slice_get stations k ≡ Some s → slice_get cells k ≡ Some c → IsPlaced sites stations k s c
   pub books_are : (site : ℕ) (b : Book) → slice_get books site ≡ Some b → b.limits ≡ limits_at stations site
-  pub known : (k : ℕ) (c : Cell) (p : Held) → slice_get cells k ≡ Some c → slice_get passes k ≡ Some p → Knows c p
+  pub known : (k : ℕ) (c : Cell) (t : Tallied) → slice_get cells k ≡ Some c → slice_get tallies k ≡ Some t → Knows c t
   pub shown : (k : ℕ) (c : Cell) (b : Book) → slice_get cells k ≡ Some c → slice_get books c.site ≡ Some b → IsShown c b
   pub apart : AreApart cells
 
@@ -69,4 +69,4 @@ SettlesAt number old new command a = IfSome (slice_get old.world number) (λ s. 
 -- station, and the cell counts as many changes for it as it made.
 pub record AreTheirPasses (cells : List Cell) (passes : List Held) : Type 0 where
   pub count : length passes ≡ length cells
-  pub known : (k : ℕ) (c : Cell) (p : Held) → slice_get cells k ≡ Some c → slice_get passes k ≡ Some p → Knows c p
+  pub known : (k : ℕ) (c : Cell) (p : Held) → slice_get cells k ≡ Some c → slice_get passes k ≡ Some p → Knows c (tally_of p)

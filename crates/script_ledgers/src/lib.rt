@@ -3,7 +3,8 @@
 //! A [`ScriptState`] is the state after the lines so far. It takes declarations, and opens the ledgers at the first
 //! line that needs them; [`ScriptState::answer`] answers a line before and after that. One definition says what each
 //! line does and writes (`specs/Script.antt`), and the text of a script is a fold over its lines. The crates above read
-//! the lines: `script_replay` from any reader, and `journal_script` from a script to restore.
+//! the lines: `script_replay` from any reader, and `journal_script` from a script to restore. They answer by a
+//! [`ScriptAhead`], which takes events that were read ahead.
 //!
 //! ```text
 //! let mut script = ScriptState::<J>::begin(tables);
@@ -11,13 +12,19 @@
 //! ```
 #![tactic(auto)]
 
+mod asked;
+mod detail;
 mod draft;
 mod hints;
 mod line_answers;
 mod listed;
 mod opened_script;
+mod script_ahead;
 mod script_state;
 
+pub use asked::put_asked;
+pub use detail::{Detail, put_event_text, put_message_text, put_ready_text};
 pub use draft::Draft;
 pub use listed::{put_listed, put_mark};
+pub use script_ahead::ScriptAhead;
 pub use script_state::{MAX_SCRIPT_BYTES, ScriptState};

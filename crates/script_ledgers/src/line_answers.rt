@@ -1,81 +1,38 @@
 //! The answers of opened ledgers to the lines of a script.
-ghost use Rattle.std.{specs.Prelude.{◌≡◌, ℕ, ◌+◌, ◌<◌, ◌≤◌, ◌^◌, ◌++◌, List, [], length, true, OnOk, IfOk, slice_get, take, Some, refl}, specs.Io.KnownBytes.Keeps, specs.List.position, specs.Str.bytes_eq};
+ghost use Rattle.std.{specs.Prelude.{◌≡◌, ℕ, ◌+◌, ◌<◌, ◌≤◌, ◌^◌, ◌++◌, List, [], length, true, OnOk, IfOk, slice_get, take, Some, refl}, specs.List.position, specs.Str.bytes_eq};
 ghost use Rattle.board_report.specs.Texts.{board_text};
 ghost use Rattle.message_ahead.specs.Ahead.{Asks};
-ghost use Rattle.script_lines.{specs.LineMeaning.{asks_energy, asks_export, asks_total, commands, lists, sends}, specs.Lines.line_bytes, specs.ScriptLines.meaning_of};
-ghost use Rattle.script_ledgers.{specs.Received.TakesMessageAt, specs.Running.SettlesAt, specs.Script.{board_answer, board_of_site, line_step, step_by}, specs.State.{posts_of, script_of}};
+ghost use Rattle.script_lines.{specs.LineMeaning.{asks_energy, asks_export, asks_total, commands, lists, sends}, specs.ScriptLines.meaning_of};
+ghost use Rattle.script_ledgers.{specs.Detail.message_line, specs.Received.TakesMessageAt, specs.Running.SettlesAt, specs.Script.{board_answer, board_of_site, step_by}, specs.State.{posts_of, script_of}};
 ghost use Rattle.transaction_event.specs.MessageMeaning.{HasShortId, asking, with_reply};
 
+use crate::asked::put_asked;
+use crate::detail::{Detail, put_event_text, put_ready_text};
 use crate::listed::{put_listed, put_mark};
 use crate::opened_script::OpenedScript;
 use board_report::{energy_text, export_text, site_text, total_text};
+use energy_flow::Work;
 use ledger_model::{Answer, Command, Name, TxId};
 use message_ahead::SentEvent;
-use script_lines::{
-    LineFault, LineReader, ScriptLine, TxList, put_answer, put_fault, put_line, read_line,
-};
+use script_lines::{LineFault, ScriptLine, TxList, put_answer, put_fault, put_line};
 use site_book::Naming;
 use site_desk::settle;
 use std::alloc::AllocError;
-use std::io;
-use std::io::BufRead;
-use std::thread::Threads;
 use transaction_event::{Asked, Delivery, put_event_reply, read_message};
 
 impl<J: Naming> OpenedScript<J> {
-    // Lets threads read the lines to come that the reader shows, if that is due. It consumes none of them and waits for
-    // none. If the reader fails to show them, it returns the reader's error.
-    pub(crate) fn look<X: Threads, R: BufRead>(
-        &mut self,
-        rt: &X,
-        lines: &LineReader,
-        reader: &mut R,
-    ) -> io::Result<()>
-        ensures reader { Keeps (R.remaining reader.old) (R.remaining reader.new) }
-        ensures script { script_of self.new ≡ script_of self.old }
-        ensures posts { posts_of self.new ≡ posts_of self.old }
-    {
-        let is_due = self.ahead.is_due(lines.room);
-        if lines.is_drained || !is_due {
-            return Ok(());
-        }
-        let shown = reader.fill_buf()?;
-        self.ahead.look(rt, shown);
-        Ok(())
-    }
-
-    // Puts the answer to a line into the reply: to its event if that was read ahead, else to what it says.
-    pub(crate) fn answer(
-        &mut self,
-        line: Option<&[u8]>,
-        reply: &mut Vec<u8>,
-    ) -> Result<(), AllocError>
-        requires empty { reply.old.items ≡ [] }
-        requires few { posts_of self.old < 2 ^ 62 }
-        ensures step { OnOk result (line_step (script_of self.old) (line_bytes line.entry) ≡ (script_of self.new, reply.new.items)) }
-        ensures posts { OnOk result (posts_of self.new ≤ posts_of self.old + 1) }
-    {
-        if self.ahead.is_short() {
-            return Err(AllocError);
-        }
-        if let Some(bytes) = line {
-            if let Some(sent) = self.ahead.take(bytes) {
-                return self.receive_ahead(sent, reply);
-            }
-        }
-        self.answer_asked(read_line(line), reply)
-    }
-
     // Puts the answer to a line of this meaning into the reply.
     pub(crate) fn answer_asked(
         &mut self,
         asked: ScriptLine<'_>,
         reply: &mut Vec<u8>,
+        work: &mut Work,
     ) -> Result<(), AllocError>
         requires empty { reply.old.items ≡ [] }
         requires few { posts_of self.old < 2 ^ 62 }
         ensures step { OnOk result (step_by (script_of self.old) (meaning_of asked.entry) ≡ (script_of self.new, reply.new.items)) }
         ensures posts { OnOk result (posts_of self.new ≤ posts_of self.old + 1) }
+        ensures work { work.old ≤ work.new }
     {
         match asked {
             ScriptLine::Nothing => Ok(()),
@@ -89,47 +46,65 @@ impl<J: Naming> OpenedScript<J> {
                 self.draft.tell(moment);
                 Ok(())
             }
-            ScriptLine::Sends(name, text) => self.receive(&name, text, reply),
-            ScriptLine::Commands(name, command) => self.command(&name, command, reply),
+            ScriptLine::Sends(name, text) => self.receive(&name, text, Detail::Reply, reply, work),
+            ScriptLine::Delivers(name, text) => self.receive(&name, text, Detail::Outcome, reply, work),
+            ScriptLine::Commands(name, command) => self.command(&name, command, reply, work),
             ScriptLine::AsksEnergy(name) => self.put_energy(&name, reply),
             ScriptLine::AsksExport(name) => self.put_export(&name, reply),
             ScriptLine::AsksTotal(name) => self.put_total(&name, reply),
-            ScriptLine::AsksBoard(name) => self.put_board(&name, reply),
-            ScriptLine::Lists(what, name, tx) => self.put_list(what, &name, &tx, reply),
+            ScriptLine::AsksBoard(name) => self.put_board(&name, reply, work),
+            ScriptLine::Lists(what, name, tx) => self.put_list(what, &name, &tx, reply, work),
+            ScriptLine::AsksMeaning(text) => {
+                put_asked(self.alloc, reply, text, self.draft.moment())
+            }
             ScriptLine::Marks(word) => put_mark(reply, &word),
         }
     }
 
     // Delivers an event that was read ahead, and puts the answer into the reply.
-    fn receive_ahead(&mut self, sent: SentEvent, reply: &mut Vec<u8>) -> Result<(), AllocError>
+    pub(crate) fn receive_ahead(
+        &mut self,
+        sent: SentEvent,
+        reply: &mut Vec<u8>,
+        work: &mut Work,
+    ) -> Result<(), AllocError>
         requires empty { reply.old.items ≡ [] }
         requires short { HasShortId (asking sent.delivery) }
         requires few { posts_of self.old < 2 ^ 62 }
         ensures step { (text : List ℕ) → Asks text sent.delivery → OnOk result (step_by (script_of self.old) (sends sent.station text) ≡ (script_of self.new, reply.new.items)) }
         ensures posts { OnOk result (posts_of self.new ≤ posts_of self.old + 1) }
+        ensures work { work.old ≤ work.new }
     {
         let SentEvent { station, delivery } = sent;
         match self.station_number(&station) {
             Some(number) => {
                 self.hints.keep(&station, number);
-                self.deliver(number, delivery, reply)
+                self.deliver(number, delivery, Detail::Reply, reply, work)
             }
             None => put_fault(reply, LineFault::UnknownStation),
         }
     }
 
-    // Reads and delivers a station's message, and puts the answer into the reply.
-    fn receive(&mut self, name: &Name, text: &str, reply: &mut Vec<u8>) -> Result<(), AllocError>
+    // Reads and delivers a station's message, and puts its text into the reply.
+    fn receive(
+        &mut self,
+        name: &Name,
+        text: &str,
+        detail: Detail,
+        reply: &mut Vec<u8>,
+        work: &mut Work,
+    ) -> Result<(), AllocError>
         requires empty { reply.old.items ≡ [] }
         requires few { posts_of self.old < 2 ^ 62 }
-        ensures step { OnOk result (step_by (script_of self.old) (sends name.now text.now) ≡ (script_of self.new, reply.new.items)) }
+        ensures step { OnOk result (step_by (script_of self.old) (message_line detail name.now text.now) ≡ (script_of self.new, reply.new.items)) }
         ensures posts { OnOk result (posts_of self.new ≤ posts_of self.old + 1) }
+        ensures work { work.old ≤ work.new }
     {
         match self.station_number(name) {
             Some(number) => {
                 self.hints.keep(name, number);
                 let asked = read_message(self.alloc, text, self.draft.moment(), &mut self.text);
-                self.answer_message(number, asked, reply)
+                self.answer_message(number, asked, detail, reply, work)
             }
             None => put_fault(reply, LineFault::UnknownStation),
         }
@@ -149,61 +124,69 @@ impl<J: Naming> OpenedScript<J> {
         name: &Name,
         command: Command,
         reply: &mut Vec<u8>,
+        work: &mut Work,
     ) -> Result<(), AllocError>
         requires empty { reply.old.items ≡ [] }
         requires few { posts_of self.old < 2 ^ 62 }
         ensures step { OnOk result (step_by (script_of self.old) (commands name.now command) ≡ (script_of self.new, reply.new.items)) }
         ensures posts { OnOk result (posts_of self.new ≤ posts_of self.old + 1) }
+        ensures work { work.old ≤ work.new }
     {
         match self.draft.station(name) {
             Some(number) => {
-                let answer = self.settle(number, command);
+                let answer = self.settle(number, command, work);
                 put_answer(reply, answer)
             }
             None => put_fault(reply, LineFault::UnknownStation),
         }
     }
 
-    // Delivers the event of a message to the station of this number, if the message has one, and puts the answer into
-    // the reply. A message that found no memory delivers nothing.
+    // Delivers the event of a message to the station of this number, if the message has one, and puts its text
+    // into the reply. A message that found no memory delivers nothing.
     fn answer_message(
         &mut self,
         number: usize,
         asked: Asked,
+        detail: Detail,
         reply: &mut Vec<u8>,
+        work: &mut Work,
     ) -> Result<(), AllocError>
         requires empty { reply.old.items ≡ [] }
         requires there { number < length self.old.draft.stations }
         requires short { HasShortId (with_reply asked self.old.text) }
         requires few { posts_of self.old < 2 ^ 62 }
-        ensures takes { OnOk result (TakesMessageAt number (script_of self.old) (script_of self.new) (with_reply asked self.old.text) reply.new.items) }
+        ensures takes { OnOk result (TakesMessageAt detail number (script_of self.old) (script_of self.new) (with_reply asked self.old.text) reply.new.items) }
         ensures posts { OnOk result (posts_of self.new ≤ posts_of self.old + 1) }
+        ensures work { work.old ≤ work.new }
     {
         match asked {
-            Asked::Event(delivery) => self.deliver(number, delivery, reply),
+            Asked::Event(delivery) => self.deliver(number, delivery, detail, reply, work),
             Asked::Reply { memory } => {
                 if memory {
                     return Err(AllocError);
                 }
-                put_line(reply, self.text.as_str())
+                put_ready_text(reply, detail, self.text.as_str())
             }
             Asked::Silent => put_line(reply, "silent"),
         }
     }
 
-    // Delivers an event to the station of this number, and puts the answer into the reply.
+    // Delivers an event to the station of this number, and puts its text into the reply.
     fn deliver(
         &mut self,
         number: usize,
         delivery: Delivery,
+        detail: Detail,
         reply: &mut Vec<u8>,
+        work: &mut Work,
     ) -> Result<(), AllocError>
         requires empty { reply.old.items ≡ [] }
         requires there { number < length self.old.draft.stations }
         requires short { HasShortId (asking delivery) }
         requires few { posts_of self.old < 2 ^ 62 }
-        ensures takes { OnOk result (TakesMessageAt number (script_of self.old) (script_of self.new) (asking delivery) reply.new.items) }
+        ensures takes { OnOk result (TakesMessageAt detail number (script_of self.old) (script_of self.new) (asking delivery) reply.new.items) }
         ensures posts { OnOk result (posts_of self.new ≤ posts_of self.old + 1) }
+        ensures work { work.old ≤ work.new }
     {
         let Delivery {
             id,
@@ -211,23 +194,25 @@ impl<J: Naming> OpenedScript<J> {
             event,
             token,
         } = delivery;
-        let answer = self.settle(number, Command::Deliver(key, event));
+        let answer = self.settle(number, Command::Deliver(key, event), work);
         put_event_reply(&mut self.text, id.as_str(), token, &answer);
-        put_line(reply, self.text.as_str())
+        put_event_text(reply, detail, answer, self.text.as_str())
     }
 
     // Settles a command on the station of this number.
-    fn settle(&mut self, number: usize, command: Command) -> Answer
+    fn settle(&mut self, number: usize, command: Command, work: &mut Work) -> Answer
         requires there { number < length self.old.draft.stations }
         requires few { posts_of self.old < 2 ^ 62 }
         ensures settled { SettlesAt number (script_of self.old) (script_of self.new) command result }
         ensures posts { posts_of self.new ≤ posts_of self.old + 1 }
+        ensures work { work.old ≤ work.new }
     {
         let cell = &mut self.cells[number];
         let site = cell.site() as usize;
-        let pass = &mut self.passes[number];
+        let tally = &mut self.tallies[number];
         let judgement = cell.ledger().judgement(&command);
-        let (answer, _) = settle(cell, &mut self.books[site], pass, command, judgement);
+        let book = &mut self.books[site];
+        let (answer, _) = settle(cell, book, tally, work, command, judgement);
         answer
     }
 
@@ -271,13 +256,19 @@ impl<J: Naming> OpenedScript<J> {
     }
 
     // Puts the board of a site into the reply.
-    fn put_board(&self, name: &Name, reply: &mut Vec<u8>) -> Result<(), AllocError>
+    fn put_board(
+        &self,
+        name: &Name,
+        reply: &mut Vec<u8>,
+        work: &mut Work,
+    ) -> Result<(), AllocError>
         requires { reply.old.items ≡ [] }
-        ensures { OnOk result (reply.new.items ≡ board_answer (script_of self.now) name.now) }
+        ensures work { work.old ≤ work.new }
+        ensures text { OnOk result (reply.new.items ≡ board_answer (script_of self.now) name.now) }
     {
         match self.draft.site(name) {
             Some(site) => {
-                *reply = self.board_text(name, site)?;
+                *reply = self.board_text(name, site, work)?;
                 Ok(())
             }
             None => put_fault(reply, LineFault::UnknownSite),
@@ -291,14 +282,16 @@ impl<J: Naming> OpenedScript<J> {
         name: &Name,
         tx: &TxId,
         reply: &mut Vec<u8>,
+        work: &mut Work,
     ) -> Result<(), AllocError>
         requires { reply.old.items ≡ [] }
-        ensures { OnOk result (reply.new.items ≡ (step_by (script_of self.now) (lists what name.now tx.now)).1) }
+        ensures work { work.old ≤ work.new }
+        ensures text { OnOk result (reply.new.items ≡ (step_by (script_of self.now) (lists what name.now tx.now)).1) }
     {
         match self.draft.station(name) {
             Some(number) => {
                 let listing = self.cells[number].ledger().listing(self.alloc, tx)?;
-                put_listed(self.alloc, reply, what, name, tx, &listing)
+                put_listed(self.alloc, reply, what, name, tx, &listing, work)
             }
             None => put_fault(reply, LineFault::UnknownStation),
         }
@@ -306,9 +299,15 @@ impl<J: Naming> OpenedScript<J> {
 
     // The text of the board of the site of this name and number. Its totals are those of the site's
     // book.
-    fn board_text(&self, name: &Name, site: usize) -> Result<Vec<u8>, AllocError>
+    fn board_text(
+        &self,
+        name: &Name,
+        site: usize,
+        work: &mut Work,
+    ) -> Result<Vec<u8>, AllocError>
         requires { position (λ s. bytes_eq name.now s.name) self.now.draft.sites ≡ Some site }
-        ensures { IfOk result (λ text. text.items ≡ board_text (board_of_site (script_of self.now) name.now)) }
+        ensures work { work.old ≤ work.new }
+        ensures text { IfOk result (λ text. text.items ≡ board_text (board_of_site (script_of self.now) name.now)) }
     {
         let totals = self.books[site].totals();
         site_text(
@@ -318,6 +317,7 @@ impl<J: Naming> OpenedScript<J> {
             site,
             name,
             totals,
+            work,
         )
     }
 }

@@ -1,17 +1,19 @@
-ghost use Rattle.std.{specs.Prelude.{◌≡◌, ℕ, ◌+◌, ◌<◌, ◌≤◌, ◌^◌, [], None, IfOk, OnOk}, specs.Io.KnownBytes.Keeps};
+ghost use Rattle.std.specs.Prelude.{◌≡◌, ℕ, ◌+◌, ◌<◌, ◌≤◌, ◌^◌, List, [], None, IfOk, OnOk};
+ghost use Rattle.message_ahead.specs.Ahead.{Asks};
 ghost use Rattle.script_ledgers.{specs.Running.{AreTheirPasses, running}, specs.Script.{line_step, opened_for, opened_script, opening, start, step_by}};
-ghost use Rattle.script_lines.{specs.Lines.line_bytes, specs.ScriptLines.meaning_of};
+ghost use Rattle.script_lines.{specs.LineMeaning.sends, specs.Lines.line_bytes, specs.ScriptLines.meaning_of};
 ghost use Rattle.site_book.specs.Tables.{HasTable, NamedBy};
 ghost use Rattle.site_desk.{specs.Plan.plan_fault, specs.Roster.AreCellsOf};
+ghost use Rattle.transaction_event.specs.MessageMeaning.{HasShortId, asking};
 
 use crate::draft::Draft;
 use crate::opened_script::OpenedScript;
-use script_lines::{LineReader, ScriptLine, read_line};
+use energy_flow::Work;
+use message_ahead::SentEvent;
+use script_lines::{ScriptLine, read_line};
 use site_book::{Naming, Tables};
 use site_desk::{Pass, StationCell};
 use std::alloc::AllocError;
-use std::io;
-use std::io::BufRead;
 use std::marker::Model;
 use std::thread::Threads;
 
@@ -70,64 +72,75 @@ impl<J: Naming> ScriptState<J> {
     }
 
     /// Puts the text that answers one line, which may be too long, into the reply. The first line that needs the
-    /// ledgers opens them. The error is a lack of memory; after it the caller answers no further line.
-    pub fn answer<X: AllocGlobal + Threads>(
+    /// ledgers opens them. `work` counts the looks at levels. The error is a lack of memory; after it the caller answers no
+    /// further line.
+    pub fn answer<X: AllocGlobal>(
         &mut self,
         rt: &X,
         line: Option<&[u8]>,
         reply: &mut Vec<u8>,
+        work: &mut Work,
     ) -> Result<(), AllocError>
         requires empty { reply.old.items ≡ [] }
         requires few { self.old.posts < 2 ^ 62 }
         ensures step { OnOk result (line_step self.old.script (line_bytes line.entry) ≡ (self.new.script, reply.new.items)) }
         ensures posts { OnOk result (self.new.posts ≤ self.old.posts + 1) }
+        ensures work { work.old ≤ work.new }
     {
-        match &self.declared {
-            Some(_) => self.answer_asked(rt, read_line(line), reply),
-            None => match &mut self.opened {
-                Some(opened) => opened.answer(line, reply),
-                None => Err(AllocError),
-            },
-        }
+        self.answer_asked(rt, read_line(line), reply, work)
     }
 
     // Puts the answer to a line of this meaning into the reply; before, it opens the ledgers if the line
     // needs them.
-    fn answer_asked<X: AllocGlobal + Threads>(
+    fn answer_asked<X: AllocGlobal>(
         &mut self,
         rt: &X,
         asked: ScriptLine<'_>,
         reply: &mut Vec<u8>,
+        work: &mut Work,
     ) -> Result<(), AllocError>
         requires empty { reply.old.items ≡ [] }
         requires few { self.old.posts < 2 ^ 62 }
         ensures step { OnOk result (step_by self.old.script (meaning_of asked.entry) ≡ (self.new.script, reply.new.items)) }
         ensures posts { OnOk result (self.new.posts ≤ self.old.posts + 1) }
+        ensures work { work.old ≤ work.new }
     {
         self.open_for(rt, &asked)?;
         match &mut self.declared {
-            Some(declared) => declared.draft.answer_asked(asked, reply),
+            Some(declared) => declared.draft.answer_asked(rt.alloc(), asked, reply),
             None => match &mut self.opened {
-                Some(opened) => opened.answer_asked(asked, reply),
+                Some(opened) => opened.answer_asked(asked, reply, work),
                 None => Err(AllocError),
             },
         }
     }
 
-    /// Lets threads read the lines to come that the reader shows, if that is due. It consumes none of them and waits
-    /// for none. If the reader fails to show them, it returns the reader's error.
-    pub fn look<X: Threads, R: BufRead>(
+    // Whether the ledgers are opened.
+    pub(crate) fn is_opened(&self) -> bool {
+        self.opened.is_some()
+    }
+
+    // Delivers an event that was read ahead, and puts the answer into the reply. Before the ledgers are opened nothing is
+    // read ahead, and it only reports an error.
+    pub(crate) fn receive_ahead(
         &mut self,
-        rt: &X,
-        lines: &LineReader,
-        reader: &mut R,
-    ) -> io::Result<()>
-        ensures reader { Keeps (R.remaining reader.old) (R.remaining reader.new) }
-        ensures same { self.new ≡ self.old }
+        sent: SentEvent,
+        reply: &mut Vec<u8>,
+        work: &mut Work,
+    ) -> Result<(), AllocError>
+        requires empty { reply.old.items ≡ [] }
+        requires short { HasShortId (asking sent.delivery) }
+        requires few { self.old.posts < 2 ^ 62 }
+        ensures step { (text : List ℕ) → Asks text sent.delivery → OnOk result (step_by self.old.script (sends sent.station text) ≡ (self.new.script, reply.new.items)) }
+        ensures posts { OnOk result (self.new.posts ≤ self.old.posts + 1) }
+        ensures work { work.old ≤ work.new }
     {
-        match &mut self.opened {
-            Some(opened) => opened.look(rt, lines, reader),
-            None => Ok(()),
+        match &self.declared {
+            Some(_) => Err(AllocError),
+            None => match &mut self.opened {
+                Some(opened) => opened.receive_ahead(sent, reply, work),
+                None => Err(AllocError),
+            },
         }
     }
 
@@ -150,17 +163,13 @@ impl<J: Naming> ScriptState<J> {
             opened,
         } = script;
         match opened {
-            Some(opened) => Ok(opened.into_parts()),
+            Some(opened) => opened.into_parts(rt),
             None => Err(AllocError),
         }
     }
 
     // Opens the ledgers, if a line of this meaning needs them.
-    fn open_for<X: AllocGlobal + Threads>(
-        &mut self,
-        rt: &X,
-        asked: &ScriptLine<'_>,
-    ) -> Result<(), AllocError>
+    fn open_for<X: AllocGlobal>(&mut self, rt: &X, asked: &ScriptLine<'_>) -> Result<(), AllocError>
         ensures script { OnOk result (self.new.script ≡ opened_for (meaning_of asked.now) self.old.script) }
         ensures posts { OnOk result (self.new.posts ≡ self.old.posts) }
     {
@@ -173,12 +182,12 @@ impl<J: Naming> ScriptState<J> {
     }
 
     // Opens the ledgers, unless they are.
-    fn open<X: AllocGlobal + Threads>(&mut self, rt: &X) -> Result<(), AllocError>
+    fn open<X: AllocGlobal>(&mut self, rt: &X) -> Result<(), AllocError>
         ensures script { OnOk result (self.new.script ≡ opened_script self.old.script) }
         ensures posts { OnOk result (self.new.posts ≡ self.old.posts) }
     {
         if let Some(Declared { draft, tables }) = self.declared.take() {
-            self.opened = Some(OpenedScript::open(rt, tables, draft)?);
+            self.opened = Some(OpenedScript::open(rt.alloc(), tables, draft)?);
         }
         Ok(())
     }
@@ -196,9 +205,11 @@ fn needs_ledgers(asked: &ScriptLine<'_>) -> bool
         | ScriptLine::SetsPeriod(_, _)
         | ScriptLine::SetsOrder(_, _)
         | ScriptLine::SetsSettle(_, _)
+        | ScriptLine::AsksMeaning(_)
         | ScriptLine::Marks(_)
         | ScriptLine::Tells(_) => false,
         ScriptLine::Sends(_, _)
+        | ScriptLine::Delivers(_, _)
         | ScriptLine::Commands(_, _)
         | ScriptLine::AsksEnergy(_)
         | ScriptLine::AsksExport(_)

@@ -2,7 +2,9 @@ ghost use Rattle.std.{specs.Prelude.{ℕ, ◌<◌, ◌≡◌, [], OnOk, OnSome},
 ghost use Rattle.script_replay.specs.Outcome.{IsReplay};
 
 use crate::replay::replay_lines;
+use energy_flow::Work;
 use ledger_model::MAX_SITES;
+use message_ahead::Lookahead;
 use script_lines::ReplayFault;
 use site_book::Tables;
 use std::io::{BufRead, BufWriter, Write};
@@ -59,7 +61,11 @@ fn replay_unflushed<X: AllocGlobal + Threads, R: BufRead, W: Write>(
     ensures end { OnOk result (OnSome (R.remaining reader.old) (IsAtEnd (R.remaining reader.new))) }
 {
     match Tables::make(rt.alloc(), MAX_SITES as u16) {
-        Ok(tables) => replay_lines::<Brand, X, R, W>(rt, tables, reader, writer),
+        Ok(tables) => {
+            let ahead = Lookahead::new(rt.alloc());
+            let mut work = Work::open(rt);
+            replay_lines::<Brand, X, Lookahead, R, W>(rt, tables, ahead, reader, writer, &mut work)
+        }
         Err(_) => Err(ReplayFault::OutOfMemory),
     }
 }

@@ -67,6 +67,20 @@ abbrev pub Answers : {M : Type 0} → (ℕ → StationPlace → Command → Answ
 Answers gives stations p words now text p' told seen true = TellsMemory words p text p' told seen
 Answers gives stations p words now text p' told seen false = AnswersMeaning gives stations p (message words now) text p' told seen
 
+-- The answer to a meaning, with the desk's answer to its event, if it has one.
+abbrev pub OutcomeOfMeaning : {M : Type 0} → (ℕ → StationPlace → Command → Answer → Option Known → Option M → Type 0)
+    → List StationPlace → Held → Meaning → Option Answer → Option (List ℕ) → Held → Option Known → Option M → Type 0
+OutcomeOfMeaning gives stations p Silence outcome text p' told seen = (outcome ≡ None) × IsReady None p text p' told seen
+OutcomeOfMeaning gives stations p (Ready reply) outcome text p' told seen = (outcome ≡ None) × IsReady (Some reply) p text p' told seen
+OutcomeOfMeaning gives stations p (Event id request) outcome text p' told seen = (d : IsDelivered gives stations p id request text p' told seen) × (outcome ≡ Some d.answer)
+
+-- The answer to a station's text at a moment, with the desk's answer to its event; there is none if there was no memory
+-- to read the text.
+abbrev pub Outcomes : {M : Type 0} → (ℕ → StationPlace → Command → Answer → Option Known → Option M → Type 0) → List StationPlace
+    → Held → List ℕ → ℕ → Option Answer → Option (List ℕ) → Held → Option Known → Option M → Bool → Type 0
+Outcomes gives stations p words now outcome text p' told seen true = (outcome ≡ None) × TellsMemory words p text p' told seen
+Outcomes gives stations p words now outcome text p' told seen false = OutcomeOfMeaning gives stations p (message words now) outcome text p' told seen
+
 -- The reply in the caller's buffer, if there is one.
 abbrev pub reply_of : Bool → List ℕ → Option (List ℕ)
 reply_of true text = Some text

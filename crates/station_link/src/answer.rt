@@ -3,7 +3,7 @@ ghost use Rattle.std.specs.Prelude.{◌≡◌, ◌≤◌, IsTrue, IfOk, OnErr, c
 ghost use Rattle.ledger_model.specs.declared.command.Command.{Command};
 ghost use Rattle.ocppj_frame.specs.Ranges.{longest_message};
 ghost use Rattle.transaction_event.specs.Reply.{answers_delivery, memory_reply};
-ghost use Rattle.station_link.specs.Answer.{Answers, Asks, IsGivenAt, IsNextPass, IsSubmitted, reply_of};
+ghost use Rattle.station_link.specs.Answer.{Answers, Asks, IsGivenAt, IsNextPass, IsSubmitted, Outcomes, reply_of};
 
 use crate::delivers::{Delivers, Ordered};
 use arrayvec::ArrayString;
@@ -21,6 +21,8 @@ use transaction_event::{Asked, Delivery, deliveries_are_answered, put_event_repl
 pub struct Answered<D: Delivers> {
     /// The reply; `None` if the text gets none.
     pub text: Option<ArrayString<512>>,
+    /// The desk's answer to the text's event; `None` if it has none, or if there was no memory.
+    pub outcome: Option<Answer>,
     /// The `Told` of the site's book, if the text's event was accepted.
     pub told: Option<Told<D::Names>>,
     /// What the desk returned with the answer.
@@ -34,6 +36,8 @@ pub struct Answered<D: Delivers> {
 pub(crate) struct Replied<D: Delivers> {
     // Whether it has a reply, which is then in the buffer.
     pub(crate) has_reply: bool,
+    // The desk's answer to the text's event; `None` if it has none, or if there was no memory.
+    pub(crate) outcome: Option<Answer>,
     // The `Told` of the site's book, if the text's event was accepted.
     pub(crate) told: Option<Told<D::Names>>,
     // What the desk returned with the answer.
@@ -83,18 +87,21 @@ pub fn answer_text<D: Delivers, G: Gate, R: Wait + Clock>(
     gate: &G,
 ) -> Answered<D>
     ensures answers { Answers D.gives (D.stations desk.now) pass.old text.now now (option_map (λ t. t.bytes) result.text) pass.new result.told result.seen result.memory }
+    ensures outcome { Outcomes D.gives (D.stations desk.now) pass.old text.now now result.outcome (option_map (λ t. t.bytes) result.text) pass.new result.told result.seen result.memory }
     ensures next { IsNextPass pass.old pass.new }
     ensures while_reading { IsTrue result.memory → length text.now ≤ longest_message }
 {
     let mut reply = ArrayString::new();
     let Replied {
         has_reply,
+        outcome,
         told,
         seen,
         memory,
     } = put_answer(desk, rt, alloc, pass, text, now, gate, &mut reply);
     Answered {
         text: if has_reply { Some(reply) } else { None },
+        outcome,
         told,
         seen,
         memory,
@@ -114,6 +121,7 @@ pub(crate) fn put_answer<D: Delivers, G: Gate, R: Wait + Clock>(
     reply: &mut ArrayString<512>,
 ) -> Replied<D>
     ensures answers { Answers D.gives (D.stations desk.now) pass.old text.now now (reply_of result.has_reply reply.new.bytes) pass.new result.told result.seen result.memory }
+    ensures outcome { Outcomes D.gives (D.stations desk.now) pass.old text.now now result.outcome (reply_of result.has_reply reply.new.bytes) pass.new result.told result.seen result.memory }
     ensures next { IsNextPass pass.old pass.new }
     ensures while_reading { IsTrue result.memory → length text.now ≤ longest_message }
 {
@@ -130,6 +138,7 @@ pub(crate) fn put_answer<D: Delivers, G: Gate, R: Wait + Clock>(
                 put_event_reply(reply, id.as_str(), token, &answer);
                 Replied {
                     has_reply: true,
+                    outcome: Some(answer),
                     told,
                     seen,
                     memory: false,
@@ -139,6 +148,7 @@ pub(crate) fn put_answer<D: Delivers, G: Gate, R: Wait + Clock>(
                 *reply = memory_reply();
                 Replied {
                     has_reply: true,
+                    outcome: None,
                     told: None,
                     seen: None,
                     memory: true,
@@ -147,12 +157,14 @@ pub(crate) fn put_answer<D: Delivers, G: Gate, R: Wait + Clock>(
         },
         Asked::Reply { memory } => Replied {
             has_reply: true,
+            outcome: None,
             told: None,
             seen: None,
             memory,
         },
         Asked::Silent => Replied {
             has_reply: false,
+            outcome: None,
             told: None,
             seen: None,
             memory: false,

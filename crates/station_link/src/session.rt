@@ -328,6 +328,7 @@ fn answer_message<D: Delivers, R: Wait + Clock, S: Read + Write + Drop, G: Gate,
             let text = text.as_str();
             let Replied {
                 has_reply,
+                outcome: _,
                 told: _,
                 seen: one,
                 memory: _,

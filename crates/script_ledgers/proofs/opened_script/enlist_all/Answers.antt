@@ -1,5 +1,5 @@
 use Rattle.std.{proofs.Common.{◌≡◌, ◌<◌, ◌≤◌, ◌++◌, length, get_or, map, take, drop, subst, ap, ◌∙◌, arith}, proofs.lemmas.List.take_all, proofs.Math.Seq.take-append_seam}
-use Rattle.site_desk.specs.Cell.{Cell, new_pass}
+use Rattle.site_desk.specs.Cell.{Cell, new_tally}
 use Rattle.script_ledgers.proofs.Enlisted.{enlisted_step, first_given, told_ok, told_value, turned_all}
 use Rattle.script_ledgers.proofs.opened_script.enlist_all.Goals as goal
 
@@ -7,11 +7,11 @@ pub loop-cell-preserved : goal.loop-cell-preserved
 loop-cell-preserved g c =
     let cell : Cell = get_or c.loop-cell.cell-items c.loop-cell.cell-index c.cell-item.result in
     let less = subst (λ n. c.loop-cell.cell-index < n) c.loop-cell.invariant.2 c.loop-cell-test.true in
-    let step = enlisted_step c.args.cells.now.items c.loop-cell.cell-items c.loop-cell.cell-index c.loop-cell.passes.items
+    let step = enlisted_step c.args.cells.now.items c.loop-cell.cell-items c.loop-cell.cell-index c.loop-cell.tallies.items
     c.push.new.self.items c.cell-item.result c.enlist_cell.new.cell c.unwrap.result
     c.requires less c.loop-cell.invariant.0 c.loop-cell.invariant.1
     (told_ok c.enlist_cell.result c.unwrap.result _ c.unwrap.ensures c.enlist_cell.ensures.cell)
-    (told_value c.enlist_cell.result c.unwrap.result (λ p. p ≡ new_pass cell.station (length cell.counts)) c.unwrap.ensures c.enlist_cell.ensures.pass)
+    (told_value c.enlist_cell.result c.unwrap.result (λ p. p ≡ new_tally cell.station (length cell.counts)) c.unwrap.ensures c.enlist_cell.ensures.pass)
     c.in_ok-push.ensures.items in
     (step.0, step.1, c.loop-cell.invariant.2)
 
@@ -26,8 +26,8 @@ returns-clause-cells g c =
     ∙ c.loop-cell.invariant.0
     ∙ turned_all first_given cells c.loop-cell.cell-index past
 
-pub returns-clause-passes : goal.returns-clause-passes
-returns-clause-passes g c =
+pub returns-clause-tallies : goal.returns-clause-tallies
+returns-clause-tallies g c =
     let cells = c.args.cells.now.items in
     let past : length cells ≤ c.loop-cell.cell-index = subst (λ l. length l ≤ c.loop-cell.cell-index) c.deref_mut-cell-items.ensures.value c.loop-cell-test.false in
-    c.loop-cell.invariant.1 ∙ ap (map (λ (d : Cell). new_pass d.station 0)) (take_all c.loop-cell.cell-index cells past)
+    c.loop-cell.invariant.1 ∙ ap (map (λ (d : Cell). new_tally d.station 0)) (take_all c.loop-cell.cell-index cells past)

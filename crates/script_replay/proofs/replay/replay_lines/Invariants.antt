@@ -10,6 +10,7 @@ invariant-lines g l =
     (g.R.Read.remaining l.fn.reader) (g.R.Read.remaining l.reader) (g.W.Write.contents l.fn.writer) (g.W.Write.contents l.writer)
     × (l.lines.max_line_bytes ≡ longest_line)
     × (l.script.posts + l.lines.room ≤ longest_script)
+    × (l.fn.work ≤ l.work)
 
 abbrev pub decreases-lines : goal.decreases-lines
 decreases-lines g l = l.lines.room

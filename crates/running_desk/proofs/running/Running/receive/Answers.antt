@@ -4,7 +4,7 @@ use Rattle.running_desk.proofs.Replied.{sent}
 use Rattle.running_desk.proofs.running.Running.receive.Goals as goal
 
 pub returns-in-Ok-clause-sent : goal.returns-in-Ok-clause-sent
-returns-in-Ok-clause-sent g c = value_told c.deliver-delivered.result _ _ (λ seen h. sent g.S.Delivers.gives seen _ _ _ c.in-Ok.ensures.named _ _ _ h) c.deliver-delivered.ensures
+returns-in-Ok-clause-sent g c = value_told c.deliver-delivered.result _ _ (λ seen h. sent c.args.detail g.S.Delivers.gives seen _ _ _ c.in-Ok.ensures.named _ _ _ h) c.deliver-delivered.ensures
 
 pub returns-in-Ok-clause-messaged : goal.returns-in-Ok-clause-messaged
 returns-in-Ok-clause-messaged g c =

@@ -38,7 +38,7 @@ returns g c =
     let period = period_at s.draft.sites site in
     let boards = boards_at order period s.draft.stations s.cells.items site in
     let stations = stations_of name (script_of s).world in
-    let totals = c.totals-totals.ensures.sums ∙ totals_are s.draft s.cells.items s.books.items s.passes.items s.running period site c.index.result.now book in
+    let totals = c.totals-totals.ensures.sums ∙ totals_are s.draft s.cells.items s.books.items s.tallies.items s.running period site c.index.result.now book in
     let alike : site_named name (period_at c.plan.result.now.sites.items site) (order_at c.plan.result.now.sites.items site)
     c.totals-totals.result
     (boards_at (order_at c.plan.result.now.sites.items site) (period_at c.plan.result.now.sites.items site) c.plan.result.now.stations.items c.deref.result.now site)

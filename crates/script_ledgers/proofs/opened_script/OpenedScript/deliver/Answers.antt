@@ -7,6 +7,6 @@ use Rattle.script_ledgers.proofs.opened_script.OpenedScript.deliver.Goals as goa
 pub put_event_reply-requires-clause-delivery : goal.put_event_reply-requires-clause-delivery
 put_event_reply-requires-clause-delivery g c =
     let s = c.args.self.now in
-    let at = is_at s.draft s.cells.items s.books.items s.passes.items s.running c.args.number c.requires.there in
+    let at = is_at s.draft s.cells.items s.books.items s.tallies.items s.running c.args.number c.requires.there in
     let did = some_of _ at.station (λ t. Settles (script_of s) _ t (Deliver c.args.delivery.key c.args.delivery.event) c.settle-answer.result) at.there c.settle-answer.ensures.settled in
     ap answers_delivery did.answer_is ∙ each_delivery_is_answered at.station.limits at.station.content c.args.delivery.key c.args.delivery.event

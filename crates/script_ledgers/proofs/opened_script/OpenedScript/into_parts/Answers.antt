@@ -10,9 +10,9 @@ returns-clause-faultless g c =
 pub returns-clause-placed : goal.returns-clause-placed
 returns-clause-placed g c =
     let s = c.args.self in
-    cells_of s.draft.sites s.draft.stations s.cells.items s.books.items s.passes.items s.running
+    cells_of s.draft.sites s.draft.stations s.cells.items s.books.items s.tallies.items s.running
 
-pub returns-clause-passes : goal.returns-clause-passes
-returns-clause-passes g c =
+pub returns-clause-tallies : goal.returns-clause-tallies
+returns-clause-tallies g c =
     let r = c.args.self.running in
-    record { count = r.all_passes ∙ sym r.all_cells; known = r.known }
+    record { count = r.all_tallies ∙ sym r.all_cells; known = r.known }

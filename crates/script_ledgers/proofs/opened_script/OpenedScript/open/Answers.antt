@@ -24,8 +24,8 @@ invariant_of-result g c =
     (subst (AreNewBooks c.plan.result.now.stations.items (length c.plan.result.now.sites.items)) (sym w) told.books)) in
     let tied = subst (λ l. AreTied l books) (sym v) (subst (AreTied c.in-Ok.field-0.cells) (sym w) told.tied) in
     let apart = subst AreApart (sym v) told.apart in
-    let given = c.in_ok-passes-in-Ok.ensures in
-    record { running = opened_running d.sites d.stations old books c.enlist_all.new.cells.items c.in_ok-passes-in-Ok.passes.items c.plan.ensures.is new made tied apart given.cells given.passes }
+    let given = c.in_ok-tallies-in-Ok.ensures in
+    record { running = opened_running d.sites d.stations old books c.enlist_all.new.cells.items c.in_ok-tallies-in-Ok.tallies.items c.plan.ensures.is new made tied apart given.cells given.tallies }
 
 pub returns-in-Ok-clause-script : goal.returns-in-Ok-clause-script
 returns-in-Ok-clause-script g c =
@@ -43,9 +43,9 @@ returns-in-Ok-clause-script g c =
     (subst (AreNewBooks c.plan.result.now.stations.items (length c.plan.result.now.sites.items)) (sym w) told.books)) in
     let tied = subst (λ l. AreTied l books) (sym v) (subst (AreTied c.in-Ok.field-0.cells) (sym w) told.tied) in
     let apart = subst AreApart (sym v) told.apart in
-    let given = c.in_ok-passes-in-Ok.ensures in
+    let given = c.in_ok-tallies-in-Ok.ensures in
     ap (λ x. record (planned d) { opened = true; world = x })
-    (opened_world d.sites d.stations old books c.enlist_all.new.cells.items c.in_ok-passes-in-Ok.passes.items c.plan.ensures.is new made tied apart given.cells given.passes)
+    (opened_world d.sites d.stations old books c.enlist_all.new.cells.items c.in_ok-tallies-in-Ok.tallies.items c.plan.ensures.is new made tied apart given.cells given.tallies)
 
 pub returns-in-Ok-clause-none : goal.returns-in-Ok-clause-none
 returns-in-Ok-clause-none g c =
@@ -63,5 +63,5 @@ returns-in-Ok-clause-none g c =
     (subst (AreNewBooks c.plan.result.now.stations.items (length c.plan.result.now.sites.items)) (sym w) told.books)) in
     let tied = subst (λ l. AreTied l books) (sym v) (subst (AreTied c.in-Ok.field-0.cells) (sym w) told.tied) in
     let apart = subst AreApart (sym v) told.apart in
-    let given = c.in_ok-passes-in-Ok.ensures in
-    no_posts d.sites d.stations old books c.enlist_all.new.cells.items c.in_ok-passes-in-Ok.passes.items c.plan.ensures.is new made tied apart given.cells given.passes
+    let given = c.in_ok-tallies-in-Ok.ensures in
+    no_posts d.sites d.stations old books c.enlist_all.new.cells.items c.in_ok-tallies-in-Ok.tallies.items c.plan.ensures.is new made tied apart given.cells given.tallies

@@ -9,7 +9,7 @@ use Rattle.script_ledgers.proofs.opened_script.OpenedScript.put_total.Goals as g
 pub returns-in-Some : goal.returns-in-Some
 returns-in-Some g c =
     let s = c.args.self.now in
-    let of = is_of s.draft s.cells.items s.books.items s.passes.items s.running c.args.name.now c.in-Some.number c.station.result c.station.ensures c.in-Some.is in
+    let of = is_of s.draft s.cells.items s.books.items s.tallies.items s.running c.args.name.now c.in-Some.number c.station.result c.station.ensures c.in-Some.is in
     let stands = slice_get_read s.cells.items (length s.cells.items) c.in-Some.number c.index.result.now refl (omega (arith, of.less, s.running.all_cells)) c.index.ensures in
     let cell = some_same of.at.cell c.index.result.now (sym of.at.is_cell ∙ stands) in
     let content = of.at.content ∙ ap (λ (x : Cell). x.content) cell ∙ sym c.ledger.ensures.content in
@@ -23,5 +23,5 @@ returns-in-Some g c =
 pub returns-in-None : goal.returns-in-None
 returns-in-None g c =
     let s = c.args.self.now in
-    let none = is_none s.draft s.cells.items s.books.items s.passes.items s.running c.args.name.now c.station.result c.station.ensures c.in-None.is in
+    let none = is_none s.draft s.cells.items s.books.items s.tallies.items s.running c.args.name.now c.station.result c.station.ensures c.in-None.is in
     ok_told c.put_fault.result _ _ (λ h. h ∙ ap (λ o. c.args.reply.now.items ++ total_answer (order_named (script_of s)) o) (sym none)) c.put_fault.ensures
