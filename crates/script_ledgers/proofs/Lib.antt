@@ -9,3 +9,4 @@ pub mod Parted
 pub mod Named
 pub mod Boards
 pub mod Told
+pub mod Passes

@@ -13,7 +13,7 @@ none_given sites stations cells new k d less =
     ap (λ (c : Cell). c.counts) (get_or_from_slice_get cells k _ d (new.each k s.0 s.1))
 
 -- the element that an element of a mapped list was made of
-mapped_from : {X Y : Type 0} (f : X → Y) (xs : List X) (k : ℕ) (y : Y) → slice_get (map f xs) k ≡ Some y → (x : X) × ((slice_get xs k ≡ Some x) × (f x ≡ y))
+pub mapped_from : {X Y : Type 0} (f : X → Y) (xs : List X) (k : ℕ) (y : Y) → slice_get (map f xs) k ≡ Some y → (x : X) × ((slice_get xs k ≡ Some x) × (f x ≡ y))
 mapped_from f [] k y at = absurd (cc at)
 mapped_from f (x ∷ xs) zero y at = (x, (refl, some_same (f x) y at))
 mapped_from f (x ∷ xs) (suc k) y at = mapped_from f xs k y at

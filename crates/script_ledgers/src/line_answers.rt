@@ -211,8 +211,7 @@ impl<J: Naming> OpenedScript<J> {
         let site = cell.site() as usize;
         let tally = &mut self.tallies[number];
         let judgement = cell.ledger().judgement(&command);
-        let book = &mut self.books[site];
-        let (answer, _) = settle(cell, book, tally, work, command, judgement);
+        let (answer, _) = settle(cell, &mut self.books[site], tally, work, command, judgement);
         answer
     }
 

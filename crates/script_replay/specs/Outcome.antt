@@ -26,6 +26,10 @@ abbrev pub IsReplay : Option (List ℕ) → Option (List ℕ) → Option (List �
 IsReplay r0 r1 w0 w1 result =
     (read written : List ℕ) × Consumes r0 r1 read × Appends w0 w1 written × Replays (OnSome r0 (IsAtEnd r1)) (script_text start) longest_line longest_script result read written
 
+-- the text of a script of these bytes
+abbrev pub text_of : List ℕ → List ℕ
+text_of script = script_text start (lines_of longest_line script)
+
 -- memory ran out after a byte was read
 abbrev pub Began : {T : Type 0} → Result T ReplayFault → List ℕ → Type 0
 Began (Ok _) read = Unit {0}

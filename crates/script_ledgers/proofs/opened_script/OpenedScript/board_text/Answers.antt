@@ -27,8 +27,8 @@ pub site_text-requires-clause-readings : goal.site_text-requires-clause-readings
 site_text-requires-clause-readings g c =
     subst (λ xs. sum_by (λ (t : StationPlan). t.limits.readings) xs ≤ most_plan_readings) (sym c.plan.ensures.stations) c.args.self.now.running.plan.few_readings
 
-pub returns : goal.returns
-returns g c =
+pub returns-clause-text : goal.returns-clause-text
+returns-clause-text g c =
     let s = c.args.self.now in
     let name = c.args.name.now in
     let site = c.args.site in
@@ -50,4 +50,4 @@ returns g c =
     (site_shown order period s.draft.sites s.draft.stations s.cells.items name site s.running.plan.sites_once s.running.plan.placed c.requires)
     (order_found name s.draft.sites site c.requires) (period_found name s.draft.sites site c.requires) refl refl refl totals refl
     refl in
-    value_told c.site_text.result _ _ (λ text h. h ∙ ap board_text alike ∙ ap board_text is) c.site_text.ensures
+    value_told c.site_text.result _ _ (λ text h. h ∙ ap board_text alike ∙ ap board_text is) c.site_text.ensures.text

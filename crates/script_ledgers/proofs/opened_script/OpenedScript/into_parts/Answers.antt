@@ -1,5 +1,5 @@
 use Rattle.std.proofs.Common.{sym, ◌∙◌}
-use Rattle.script_ledgers.proofs.Parted.{cells_of, faultless}
+use Rattle.script_ledgers.proofs.{Parted.{cells_of, faultless}, Passes.their_passes}
 use Rattle.script_ledgers.proofs.opened_script.OpenedScript.into_parts.Goals as goal
 
 pub returns-clause-faultless : goal.returns-clause-faultless
@@ -12,7 +12,7 @@ returns-clause-placed g c =
     let s = c.args.self in
     cells_of s.draft.sites s.draft.stations s.cells.items s.books.items s.tallies.items s.running
 
-pub returns-clause-tallies : goal.returns-clause-tallies
-returns-clause-tallies g c =
-    let r = c.args.self.running in
-    record { count = r.all_tallies ∙ sym r.all_cells; known = r.known }
+pub returns-clause-passes : goal.returns-clause-passes
+returns-clause-passes g c =
+    let s = c.args.self in
+    their_passes s.draft.sites s.draft.stations s.cells.items s.books.items s.tallies.items s.running c.in_ok-passes.passes.items c.in_ok-passes.ensures

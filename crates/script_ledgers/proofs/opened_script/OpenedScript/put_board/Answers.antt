@@ -5,15 +5,15 @@ use Rattle.script_lines.{specs.declared.script_line.LineFault.TheVariants.Unknow
 use Rattle.script_ledgers.{specs.Script.{order_named, period_named, shown_site, stations_of}, specs.State.script_of, proofs.Answered.ok_told, proofs.Places.{none_placed, some_placed}}
 use Rattle.script_ledgers.proofs.opened_script.OpenedScript.put_board.Goals as goal
 
-pub returns-in_ok-reply-in-Some : goal.returns-in_ok-reply-in-Some
-returns-in_ok-reply-in-Some g c =
+pub returns-in_ok-reply-in-Some-clause-text : goal.returns-in_ok-reply-in-Some-clause-text
+returns-in_ok-reply-in-Some-clause-text g c =
     let s = c.args.self.now in
     let there = some_placed {X = SitePlan} (λ x. x.name) c.args.name.now s.draft.sites c.in-Some.site (sym c.site.ensures ∙ c.in-Some.is) in
     let text = board_text (shown_site c.args.name.now (order_named (script_of s) c.args.name.now) (period_named (script_of s) c.args.name.now) (stations_of c.args.name.now (script_of s).world)) in
-    c.in_ok-reply-in-Some.ensures ∙ sym (ap (λ b. cond b text (fault_line UnknownSite)) there.among)
+    c.in_ok-reply-in-Some.ensures.text ∙ sym (ap (λ b. cond b text (fault_line UnknownSite)) there.among)
 
-pub returns-in-None : goal.returns-in-None
-returns-in-None g c =
+pub returns-in-None-clause-text : goal.returns-in-None-clause-text
+returns-in-None-clause-text g c =
     let s = c.args.self.now in
     let none = none_placed {X = SitePlan} (λ x. x.name) c.args.name.now s.draft.sites (sym c.site.ensures ∙ c.in-None.is) in
     let text = board_text (shown_site c.args.name.now (order_named (script_of s) c.args.name.now) (period_named (script_of s) c.args.name.now) (stations_of c.args.name.now (script_of s).world)) in
