@@ -1,0 +1,2 @@
+pub mod LoneWorlds
+pub mod LoneSteps
