@@ -1,10 +1,10 @@
 -- The text of a script: a fold over its lines (this product's profile).
-use Rattle.std.{specs.Prelude.{◌≡◌, ℕ, Bool, true, false, ◌&&◌, ◌||◌, ◌+◌, ◌==◌, nat_le, nat_lt, List, [], ◌∷◌, ◌++◌, codes, filter, get_or, slice_set, length, map, sum_by, if◌then◌else◌, Option, None, Some}, specs.List.{list_any, position}, specs.Str.bytes_eq}
+use Rattle.std.{specs.Prelude.{◌≡◌, ℕ, Bool, true, false, ◌&&◌, ◌||◌, ◌+◌, ◌==◌, nat_le, nat_lt, List, [], ◌∷◌, ◌++◌, codes, filter, get_or, slice_set, length, map, sum_by, if◌then◌else◌, Option, None, Some}, specs.List.{list_any, position}, specs.Fmt.decimal, specs.Str.bytes_eq}
 use Rattle.energy_flow.specs.Flow.{Energy}
-use Rattle.ledger_model.{specs.Periods.Periods, specs.declared.command.Command.Command, specs.declared.command.Command.TheVariants.Deliver, specs.declared.order.Order.Order, specs.declared.order.Order.TheVariants.Sequence, specs.Board.{Board, board_by, figures_by, site_board}, specs.Content.{empty_content, entries}, specs.Energy.energy_by, specs.declared.reading.Direction.TheVariants.{Import, Export}, specs.Limits.{Bounds, default_limits}, specs.Moment.first_moment, specs.Settling.default_periods, specs.declared.settle.Settle.Settle, specs.Ranges.{most_transactions, most_events, most_readings, most_changes, most_sites, most_stations, most_plan_readings}, specs.Step.answer, specs.World.{Station, World, world_after}}
+use Rattle.ledger_model.{specs.Periods.Periods, specs.declared.command.Command.Command, specs.declared.command.Command.TheVariants.Deliver, specs.declared.order.Order.Order, specs.declared.order.Order.TheVariants.Sequence, specs.Board.{Board, board_by, figures_by, site_board}, specs.Content.{empty_content, entries}, specs.Energy.energy_by, specs.Key.KeyName, specs.declared.reading.Direction.TheVariants.{Import, Export}, specs.Limits.{Bounds, default_limits}, specs.Moment.first_moment, specs.Settling.default_periods, specs.declared.settle.Settle.Settle, specs.Ranges.{most_transactions, most_events, most_readings, most_changes, most_sites, most_stations, most_plan_readings}, specs.Step.answer, specs.World.{Station, World, world_after}}
 use Rattle.board_report.{specs.Named.NamedBoard, specs.Listing.{events_text, readings_text}, specs.Texts.{board_text, energy_text, export_text, total_text}}
 use Rattle.transaction_event.{specs.Message.{Meaning, Event, Ready, Silence, message}, specs.Reply.event_reply_bytes}
-use Rattle.script_lines.{specs.declared.script_line.LineFault.TheVariants.{DeclaredLate, PlanLimit, StationTwice, UnknownStation, UnknownSite, UnknownTransaction}, specs.declared.script_line.TxList.TxList, specs.declared.script_line.TxList.TheVariants.{Events, Readings}, specs.Lines.{Line, text_by}, specs.LineMeaning.{LineMeaning, nothing, fails, sets_limits, declares, sets_period, sets_order, sets_settle, tells, sends, commands, asks_energy, asks_export, asks_total, asks_board, lists, marks, line_meaning}, specs.Texts.{ended_line, fault_line, answer_text}}
+use Rattle.script_lines.{specs.declared.script_line.LineFault.TheVariants.{DeclaredLate, PlanLimit, StationTwice, UnknownStation, UnknownSite, UnknownTransaction}, specs.declared.script_line.TxList.TxList, specs.declared.script_line.TxList.TheVariants.{Events, Readings}, specs.Lines.{Line, text_by}, specs.LineMeaning.{LineMeaning, nothing, fails, sets_limits, declares, sets_period, sets_order, sets_settle, tells, sends, delivers, commands, asks_energy, asks_export, asks_total, asks_board, lists, asks_meaning, marks, line_meaning}, specs.Texts.{ended_line, fault_line, answer_text, delivered_line, reply_line}}
 use Rattle.station_ledger.{specs.Listing.listing_by, specs.declared.listing.TxListing.TxListing}
 
 -- the state of a script: the limits of the stations that are declared next; the sites of the plan
@@ -243,6 +243,31 @@ abbrev pub sent_to : Option Station → Script → List ℕ → Script × List �
 sent_to None s text = (record s { opened = true }, fault_line UnknownStation)
 sent_to (Some station) s text = by_meaning (message text s.moment) station s
 
+-- a message of a station with what becomes of it: of an event its answer and then the reply; of any other message that
+-- it has this ready reply, or none
+abbrev pub told_by : Meaning → Station → Script → Script × List ℕ
+told_by (Event id request) station s =
+    let command = Deliver request.key request.event in
+    let answered = answer station.limits station.content command in
+    (record s { opened = true; world = world_after s.world (station.name, command) }, delivered_line answered (event_reply_bytes id request.token answered))
+told_by (Ready reply) station s = (record s { opened = true }, reply_line reply)
+told_by Silence station s = (record s { opened = true }, ended_line (codes "silent"))
+
+-- the text is read at the script's moment
+abbrev pub delivered_to : Option Station → Script → List ℕ → Script × List ℕ
+delivered_to None s text = (record s { opened = true }, fault_line UnknownStation)
+delivered_to (Some station) s text = told_by (message text s.moment) station s
+
+-- `event <transaction> <seqNo>`, with the transaction's id as boards show it
+abbrev pub event_line : KeyName → List ℕ
+event_line key = ended_line (codes "event " ++ (key.tx ++ (32 ∷ decimal key.seq)))
+
+-- what a message of this meaning asks for: its event's key, `reply <reply>` or `silent`
+abbrev pub asked_line : Meaning → List ℕ
+asked_line (Event id request) = event_line request.key
+asked_line (Ready reply) = reply_line reply
+asked_line Silence = ended_line (codes "silent")
+
 -- what a line does: the state that it leaves, and its text
 abbrev pub step_by : Script → LineMeaning → Script × List ℕ
 step_by s nothing = (s, [])
@@ -254,12 +279,14 @@ step_by s (sets_order site order) = if s.opened then (s, fault_line DeclaredLate
 step_by s (sets_settle site rule) = if s.opened then (s, fault_line DeclaredLate) else settle_to s site rule
 step_by s (tells nanos) = (record s { moment = nanos }, [])
 step_by s (sends name text) = sent_to (station_named name s.world) s text
+step_by s (delivers name text) = delivered_to (station_named name s.world) s text
 step_by s (commands name command) = commanded_to (station_named name s.world) s command
 step_by s (asks_energy name) = (record s { opened = true }, energy_answer (order_named s) (station_named name s.world))
 step_by s (asks_export name) = (record s { opened = true }, export_answer (order_named s) (station_named name s.world))
 step_by s (asks_total name) = (record s { opened = true }, total_answer (order_named s) (station_named name s.world))
 step_by s (asks_board site) = (record s { opened = true }, board_answer s site)
 step_by s (lists what name tx) = (record s { opened = true }, list_answer (order_named s) (period_named s) what name tx (station_named name s.world))
+step_by s (asks_meaning text) = (s, asked_line (message text s.moment))
 step_by s (marks word) = (s, mark_line word)
 
 -- the same for a line's bytes
@@ -286,12 +313,14 @@ opening (sets_order _ _) = false
 opening (sets_settle _ _) = false
 opening (tells _) = false
 opening (sends _ _) = true
+opening (delivers _ _) = true
 opening (commands _ _) = true
 opening (asks_energy _) = true
 opening (asks_export _) = true
 opening (asks_total _) = true
 opening (asks_board _) = true
 opening (lists _ _ _) = true
+opening (asks_meaning _) = false
 opening (marks _) = false
 
 -- the script with its ledgers opened

@@ -3,11 +3,12 @@ ghost use Rattle.site_desk.specs.Plan.{sites_by, sites_in, sites_settling};
 ghost use Rattle.script_lines.specs.ScriptLines.{meaning_of};
 ghost use Rattle.script_ledgers.{specs.Drafts.{planned, IsPlan}, specs.Script.{start, declared_to, is_past_plan, is_period, joined_by, limited_to, opening, order_to, period_to, settle_to, step_by}};
 
+use crate::asked::put_asked;
 use crate::listed::put_mark;
 use ledger_model::{Limits, Moment, Name, Order, Period, Periods, Settle};
 use script_lines::{LineFault, ScriptLine, put_fault};
 use site_desk::Plan;
-use std::alloc::AllocError;
+use std::alloc::{AllocError, Global};
 use std::marker::Model;
 
 /// The declarations of a script so far: its plan, the limits of the stations that follow, and its moment.
@@ -104,6 +105,7 @@ impl Draft {
     // Condition: it needs no ledgers.
     pub(crate) fn answer_asked(
         &mut self,
+        alloc: Global,
         asked: ScriptLine<'_>,
         reply: &mut Vec<u8>,
     ) -> Result<(), AllocError>
@@ -125,8 +127,10 @@ impl Draft {
                 self.tell(moment);
                 Ok(())
             }
+            ScriptLine::AsksMeaning(text) => put_asked(alloc, reply, text, self.moment),
             ScriptLine::Marks(word) => put_mark(reply, &word),
             ScriptLine::Sends(_, _)
+            | ScriptLine::Delivers(_, _)
             | ScriptLine::Commands(_, _)
             | ScriptLine::AsksEnergy(_)
             | ScriptLine::AsksExport(_)

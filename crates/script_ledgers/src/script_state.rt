@@ -106,7 +106,7 @@ impl<J: Naming> ScriptState<J> {
     {
         self.open_for(rt, &asked)?;
         match &mut self.declared {
-            Some(declared) => declared.draft.answer_asked(asked, reply),
+            Some(declared) => declared.draft.answer_asked(rt.alloc(), asked, reply),
             None => match &mut self.opened {
                 Some(opened) => opened.answer_asked(asked, reply),
                 None => Err(AllocError),
@@ -196,9 +196,11 @@ fn needs_ledgers(asked: &ScriptLine<'_>) -> bool
         | ScriptLine::SetsPeriod(_, _)
         | ScriptLine::SetsOrder(_, _)
         | ScriptLine::SetsSettle(_, _)
+        | ScriptLine::AsksMeaning(_)
         | ScriptLine::Marks(_)
         | ScriptLine::Tells(_) => false,
         ScriptLine::Sends(_, _)
+        | ScriptLine::Delivers(_, _)
         | ScriptLine::Commands(_, _)
         | ScriptLine::AsksEnergy(_)
         | ScriptLine::AsksExport(_)

@@ -7,8 +7,9 @@ use Rattle.script_lines.specs.declared.script_line.Operation.TheVariants as oper
 
 -- what a line says: nothing, a fault, the limits of the stations that follow, a station's declaration, the length of
 -- a site's settlement periods, the order of its readings, the rule by which differences count in those periods, a
--- moment, a message of a station, a command on a station, a question for a station's imported or exported energy or
--- its figures, for a site's board or for a list of a transaction, or a mark
+-- moment, a message of a station, the same with what becomes of it, a command on a station, a question for a station's
+-- imported or exported energy or its figures, for a site's board, for a list of a transaction or for what a text asks
+-- for, or a mark
 pub data LineMeaning : Type 0 where
   nothing : LineMeaning
   fails : LineFault → LineMeaning
@@ -19,12 +20,14 @@ pub data LineMeaning : Type 0 where
   sets_settle : List ℕ → Settle → LineMeaning
   tells : ℕ → LineMeaning
   sends : List ℕ → List ℕ → LineMeaning
+  delivers : List ℕ → List ℕ → LineMeaning
   commands : List ℕ → Command → LineMeaning
   asks_energy : List ℕ → LineMeaning
   asks_export : List ℕ → LineMeaning
   asks_total : List ℕ → LineMeaning
   asks_board : List ℕ → LineMeaning
   lists : TxList → List ℕ → List ℕ → LineMeaning
+  asks_meaning : List ℕ → LineMeaning
   marks : List ℕ → LineMeaning
 
 -- ---- words
@@ -133,6 +136,11 @@ abbrev pub msg_line : List (List ℕ) → LineMeaning
 msg_line (station ∷ text ∷ []) = do sends (← name station) text
 msg_line _ = fails BadLine
 
+-- `deliver <station> <text>`
+abbrev pub deliver_line : List (List ℕ) → LineMeaning
+deliver_line (station ∷ text ∷ []) = do delivers (← name station) text
+deliver_line _ = fails BadLine
+
 -- `void`, `restore` or `erase` with `<station> <transaction id> <seqNo>`
 abbrev pub command_line : Operation → List (List ℕ) → LineMeaning
 command_line what (station ∷ tx ∷ seq ∷ []) = do commands (← name station) (command_of what (← key tx (← number seq)))
@@ -151,10 +159,12 @@ question_line asks _ = fails BadLine
 -- ---- a line
 
 -- the first word says the form of the line, and how many words follow it: a message's text may have
--- spaces, a time may not
+-- spaces, a time may not; all behind `asks ` is its text, which may be empty
 abbrev pub by_first_word : List ℕ × List ℕ → LineMeaning
 by_first_word (word, rest) =
     if bytes_eq word (codes "msg") then msg_line (words 2 rest)
+    else (if bytes_eq word (codes "deliver") then deliver_line (words 2 rest)
+    else (if bytes_eq word (codes "asks") then asks_meaning rest
     else (if bytes_eq word (codes "station") then station_line (words 2 rest)
     else (if bytes_eq word (codes "limits") then limits_line (words 4 rest)
     else (if bytes_eq word (codes "period") then period_line (words 2 rest)
@@ -171,7 +181,7 @@ by_first_word (word, rest) =
     else (if bytes_eq word (codes "void") then command_line operation.Void (words 3 rest)
     else (if bytes_eq word (codes "restore") then command_line operation.Restore (words 3 rest)
     else (if bytes_eq word (codes "erase") then command_line operation.Erase (words 3 rest)
-    else fails BadLine))))))))))))))))
+    else fails BadLine))))))))))))))))))
 
 -- a line has a first word, and a space behind it
 abbrev pub by_text : List ℕ → LineMeaning

@@ -16,3 +16,11 @@ abbrev pub answer_text : Answer → List ℕ
 answer_text (Accepted n) = codes "accepted " ++ decimal n
 answer_text Repeat = codes "repeat"
 answer_text (Refused why) = codes "refused " ++ refusal_name why
+
+-- `accepted <n> <reply>`, `repeat <reply>` or `refused <name> <reply>`
+abbrev pub delivered_line : Answer → List ℕ → List ℕ
+delivered_line answer reply = ended_line (answer_text answer ++ 32 ∷ reply)
+
+-- `reply <reply>`
+abbrev pub reply_line : List ℕ → List ℕ
+reply_line reply = ended_line (codes "reply " ++ reply)

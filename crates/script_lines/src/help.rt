@@ -23,6 +23,9 @@ A script has one line for each step, and each answer is one line, a board or a l
                              `later` if there is no such line; writes nothing
   now <time>                 sets the moment, as 2026-03-01T10:00:00Z; writes nothing
   msg <station> <text>       an OCPP-J message of the station; writes the reply, or `silent`
+  deliver <station> <text>   the same; writes `accepted <n> <reply>`, `repeat <reply>` or
+                             `refused <name> <reply>`; for a text without an event
+                             `reply <reply>` or `silent`
   void, restore or erase, with <station> <transaction id> <seqNo>
                              an operator's command; writes `accepted <n>` or `refused <name>`
   energy <station>           writes `energy up=<n> down=<n>`, what was imported, in
@@ -35,6 +38,8 @@ A script has one line for each step, and each answer is one line, a board or a l
   readings <station> <transaction id>
                              writes the readings that its energy is made of, what each two in a
                              row show and the periods in which that counts, up to `end`
+  asks <text>                writes what a message asks for: `event <transaction id> <seqNo>`,
+                             `reply <reply>` or `silent`; changes nothing
   mark <word>                writes itself
 Empty lines and lines that begin with # write nothing. A line with a fault writes
 `fault <name>` and changes no plan, content or moment: LineTooLong, BadLine,

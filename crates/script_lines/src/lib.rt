@@ -2,8 +2,9 @@
 //!
 //! A script has one line for each step: a declaration, a message of a station, or an operator's command or question.
 //! [`LineReader`] reads it line by line within limits, and flushes the output before it waits for more input.
-//! [`read_line`] says what a line means, or which fault it has. [`put_line`], [`put_fault`] and [`put_answer`] make the
-//! answers, and [`write_bytes`] writes them. [`script_help`] is the help on all lines. This crate knows no ledgers.
+//! [`read_line`] says what a line means, or which fault it has. [`put_line`], [`put_fault`], [`put_answer`],
+//! [`put_delivered`] and [`put_ready`] make the answers, and [`write_bytes`] writes them. [`script_help`] is the help on
+//! all lines. This crate knows no ledgers.
 //!
 //! The crate's contract: each line that is read is the next of those that the definition cuts the bytes into,
 //! and its meaning is that of the definition `line_meaning`.
@@ -24,5 +25,5 @@ mod write;
 pub use fault::ReplayFault;
 pub use line_reader::{LineEnd, LineReader, MAX_LINE_BYTES, without_return};
 pub use script_line::{LineFault, Operation, ScriptLine, TxList, order_of, read_line, settle_of};
-pub use text::{put_answer, put_fault, put_line};
+pub use text::{put_answer, put_delivered, put_fault, put_line, put_ready};
 pub use write::{WriteStopped, write_bytes};

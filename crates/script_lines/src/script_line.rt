@@ -101,6 +101,8 @@ pub enum ScriptLine<'a> {
     Tells(Moment),
     /// `msg <station> <text>`: a message of a station.
     Sends(Name, &'a str),
+    /// `deliver <station> <text>`: the same, with what becomes of it.
+    Delivers(Name, &'a str),
     /// `void`, `restore` or `erase` with `<station> <transaction id> <seqNo>`: a command on a station.
     Commands(Name, Command),
     /// `energy <station>`: a question for the energy that a station imported.
@@ -113,6 +115,8 @@ pub enum ScriptLine<'a> {
     AsksBoard(Name),
     /// `events` or `readings` with `<station> <transaction id>`: a question for a list of a transaction.
     Lists(TxList, Name, TxId),
+    /// `asks <text>`: a question for what a message's text asks for.
+    AsksMeaning(&'a str),
     /// `mark <word>`: a line that is answered with itself.
     Marks(Name),
 }
@@ -170,6 +174,8 @@ fn line_of_form<'a>(word: &str, rest: &'a str) -> Option<ScriptLine<'a>>
     ensures { meaning_of_form result ≡ spec.by_first_word (word.now, rest.now) }
 {
     match word {
+        "deliver" => deliver_line(rest),
+        "asks" => Some(ScriptLine::AsksMeaning(rest)),
         "station" => station_line(rest),
         "limits" => limits_line(rest),
         "period" => period_line(rest),
@@ -326,6 +332,14 @@ fn msg_line(rest: &str) -> ScriptLine<'_>
         Some(name) => ScriptLine::Sends(name, text),
         None => ScriptLine::Fails(LineFault::BadLine),
     }
+}
+
+// `deliver <station> <text>`
+fn deliver_line(rest: &str) -> Option<ScriptLine<'_>>
+    ensures { meaning_of_form result ≡ spec.deliver_line (spec.words 2 rest.now) }
+{
+    let (station, text) = parted(rest)?;
+    Some(ScriptLine::Delivers(Name::new(station)?, text))
 }
 
 // `void`, `restore` or `erase` with `<station> <transaction id> <seqNo>`

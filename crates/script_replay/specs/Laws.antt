@@ -4,7 +4,7 @@ use Rattle.ledger_model.{specs.Periods.Periods, specs.declared.command.Command.C
 use Rattle.energy_flow.specs.Flow.{Energy}
 use Rattle.board_report.specs.Texts.{board_text, total_text}
 use Rattle.transaction_event.specs.Message.{Meaning, Event, Ready, Silence, message}
-use Rattle.script_lines.{specs.declared.script_line.LineFault.LineFault, specs.declared.script_line.TxList.TxList, specs.Lines.{Line, lines_of}, specs.Texts.{ended_line, fault_line}, specs.LineMeaning.{LineMeaning, nothing, fails, sets_limits, declares, sets_period, sets_order, sets_settle, tells, sends, commands, asks_energy, asks_export, asks_total, asks_board, lists, marks, line_meaning}}
+use Rattle.script_lines.{specs.declared.script_line.LineFault.LineFault, specs.declared.script_line.TxList.TxList, specs.Lines.{Line, lines_of}, specs.Texts.{ended_line, fault_line}, specs.LineMeaning.{LineMeaning, nothing, fails, sets_limits, declares, sets_period, sets_order, sets_settle, tells, sends, delivers, commands, asks_energy, asks_export, asks_total, asks_board, lists, asks_meaning, marks, line_meaning}}
 use Rattle.reading_index.specs.declared.placed.PlacedReading.{PlacedReading}
 use Rattle.station_ledger.specs.Listing.{listing_by, placed_by}
 use Rattle.script_ledgers.specs.Script.{KeepsSites, Script, start, line_step, script_text, script_after, station_named, stations_of, is_among, energy_line, export_line, listed, order_named, period_named, shown_site}
@@ -118,12 +118,14 @@ asked_of s (sets_order _ _) = []
 asked_of s (sets_settle _ _) = []
 asked_of s (tells _) = []
 asked_of s (sends name text) = sent_by (station_named name s.world) text s.moment
+asked_of s (delivers name text) = sent_by (station_named name s.world) text s.moment
 asked_of s (commands name command) = commanded_by (station_named name s.world) command
 asked_of s (asks_energy _) = []
 asked_of s (asks_export _) = []
 asked_of s (asks_total _) = []
 asked_of s (asks_board _) = []
 asked_of s (lists _ _ _) = []
+asked_of s (asks_meaning _) = []
 asked_of s (marks _) = []
 
 -- all commands that these lines ask for, in their order

@@ -3,3 +3,4 @@ pub mod Answering
 pub mod Laws
 pub mod Whole
 pub mod LiveLaws
+pub mod DeliverLaws

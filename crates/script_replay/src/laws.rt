@@ -1,5 +1,5 @@
 //! Laws of a script's text. Each function's contract is the law; the functions do nothing.
-ghost use Rattle.script_replay.{specs.LiveLaws.{LiveEventsMakeBoards, LiveEventsMakeEnergies, LiveEventsMakeTotals}, specs.Laws.{AnEmptyScriptWritesNothing, FaultsChangeNothing, StationsAreReached, EnergyIsFromScratch, ExportIsFromScratch, ListedPairsMakeEnergies, ListedPartsMakePeriods, ListsAreFromScratch, TotalsAreFromScratch, BoardsAreFromScratch, SitesAreSums, WorldsAreRuns, UnacceptedChangesNothing, OrderChangesNoBoard}};
+ghost use Rattle.script_replay.{specs.DeliverLaws.{AsksIsTheMeaning, DeliverIsMsg, DeliversMakeTheSameState}, specs.LiveLaws.{LiveEventsMakeBoards, LiveEventsMakeEnergies, LiveEventsMakeTotals}, specs.Laws.{AnEmptyScriptWritesNothing, FaultsChangeNothing, StationsAreReached, EnergyIsFromScratch, ExportIsFromScratch, ListedPairsMakeEnergies, ListedPartsMakePeriods, ListsAreFromScratch, TotalsAreFromScratch, BoardsAreFromScratch, SitesAreSums, WorldsAreRuns, UnacceptedChangesNothing, OrderChangesNoBoard}};
 
 /// The text of an empty script is empty.
 pub fn empty_script()
@@ -58,6 +58,19 @@ pub fn runs()
 /// A repeat or a refusal changes no station, whatever lines came before, and so no board.
 pub fn unaccepted()
     ensures { UnacceptedChangesNothing }
+{}
+
+/// `deliver` leaves what `msg` leaves, and what it writes is what becomes of the event and then the text of `msg`. A
+/// script with `deliver` in place of `msg`, in any of its lines, ends in the same state, so each board and each further
+/// answer is the same.
+pub fn delivers()
+    ensures line { DeliverIsMsg }
+    ensures script { DeliversMakeTheSameState }
+{}
+
+/// `asks` changes nothing, and its answer is what the text means at the script's moment.
+pub fn asks()
+    ensures { AsksIsTheMeaning }
 {}
 
 /// Two scripts have the same boards if they have the same declarations, no void, restoration or erasure,

@@ -1,6 +1,6 @@
 use Rattle.std.proofs.Common.{refl, ap}
 use Rattle.transaction_event.specs.MessageMeaning.{asking}
-use Rattle.script_ledgers.{specs.Received.TakesMessage, specs.Script.sent_to, specs.State.script_of, proofs.Answered.{ok_told, written_whole}, proofs.Named.{is_none, is_of, received, some_of}}
+use Rattle.script_ledgers.{specs.declared.told.Told.TheVariants.{Reply}, specs.Received.TakesMessage, specs.Script.sent_to, specs.State.script_of, proofs.Answered.{ok_told, written_whole}, proofs.Named.{is_none, is_of, received, some_of}}
 use Rattle.script_ledgers.proofs.opened_script.OpenedScript.receive_ahead.Goals as goal
 
 pub returns-in-Some-clause-step : goal.returns-in-Some-clause-step
@@ -13,8 +13,8 @@ returns-in-Some-clause-step g c = λ text asks.
     let reply = c.deliver.new.reply.items in
     ok_told c.deliver.result _ _
     (λ h.
-    let took = some_of _ of.at.station (λ t. TakesMessage old new t m reply) of.at.there h in
-    received old new _ of.at.station m reply text refl of.named (asks.1 s.draft.moment) took)
+    let took = some_of _ of.at.station (λ t. TakesMessage Reply old new t m reply) of.at.there h in
+    received Reply old new _ of.at.station m reply text c.args.sent.station refl refl of.named (asks.1 s.draft.moment) took)
     c.deliver.ensures.takes
 
 pub returns-in-None-clause-step : goal.returns-in-None-clause-step
