@@ -20,7 +20,8 @@ A line of the script may have
     event STATION ID TRANSACTION KIND SEQNO TIME VALUE MEMBER..
                     at its beginning: the TransactionEvent of 2026-03-01 at TIME, with one reading of VALUE
                     at that time; `-` means no reading, [TIME=VALUE;TIME=VALUE] for a reading for each
-                    pair, and each MEMBER is put, behind a comma, at the payload's end
+                    pair, and each MEMBER is put, behind a comma, at the payload's end; `msg`, or the word
+                    in front of `event`: `deliver event A 1 ..`, or `asks event - 1 ..` without a station
     <message>       the message
     <message to n>  the message's first n bytes
     <TEXT x COUNT>  TEXT so many times
@@ -61,7 +62,7 @@ def reading(time: str, value: str) -> str:
 
 
 def event(words: list[str]) -> str:
-    """The line of a message with an event."""
+    """The line `msg` of a message with an event."""
     if len(words) < 7:
         raise Refused("an event has seven words or more")
     station, message_id, transaction, kind, seq_no, time, value, *members = words
@@ -144,6 +145,10 @@ class Script:
         line = line.removesuffix("<end>")
         if line.startswith("event "):
             line = event(line.split(" ")[1:])
+        elif line.startswith("deliver event "):
+            line = "deliver" + event(line.split(" ")[2:]).removeprefix("msg")
+        elif line.startswith("asks event - "):
+            line = "asks" + event(line.split(" ")[2:]).removeprefix("msg -")
         self.script += self.expanded(line.encode(), number) + b"\n" * has_end
 
     def expanded(self, line: bytes, number: int | None) -> bytes:

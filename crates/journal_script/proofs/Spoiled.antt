@@ -2,8 +2,9 @@
 use Rattle.std.{proofs.Common.{◌≡◌, ℕ, zero, suc, ◌<◌, Bool, true, false, cond, not, ◌&&◌, ◌||◌, ◌==◌, ltb, leb, List, [], ◌∷◌, ◌++◌, Option, None, Some, bytes_eq, length, get_or, ◌⊎◌, inl, inr, refl, sym, ap, subst, ◌∙◌, arith}, specs.Prelude.{⊤, codes, slice_index, Err, ◌^◌}, specs.Char.is_ascii_digit, specs.Io.BufRead.strip_last, specs.List.{list_all, position_or_len, before_first, after_first}, specs.Option.option_map_or, specs.Str.is_utf8, specs.Str.Parse.digits_value, proofs.lemmas.Bool.{true≢false, false≢true, eq-eqb, eqb-true, and_parts}, proofs.lemmas.Bool.Decides.nat_tests, proofs.lemmas.List.Sums.{passes_at_first, split_at_first}, proofs.lemmas.Slice.Eq.bytes_eq-Decides}
 use Rattle.ledger_model.{specs.declared.order.Order.Order, specs.declared.order.Order.TheVariants.{Sequence, Moment}, specs.declared.settle.Settle.Settle, specs.declared.settle.Settle.TheVariants.{Later, Closing, Even}, specs.Name.{is_name, is_name_character}, specs.Ranges.most_name_characters, specs.World.Station}
 use Rattle.marked_json.{specs.declared.fault.JsonFault.JsonFault, specs.Reading.marked_reading}
-use Rattle.script_lines.{specs.declared.script_line.LineFault.TheVariants.{BadLine, DeclaredLate, PlanLimit}, specs.declared.script_line.Operation.Operation, specs.declared.script_line.TxList.TxList, specs.declared.script_line.TxList.TheVariants.{Events, Readings}, specs.LineMeaning.{LineMeaning, ◌>>=◌, nothing, fails, sets_limits, declares, sets_period, sets_order, sets_settle, tells, sends, commands, asks_energy, asks_export, asks_total, asks_board, lists, marks, by_bytes, by_first_word, by_words, command_line, is_number, is_space, list_line, tx_id, limits_line, line_meaning, moment, msg_line, name, now_line, number, order_line, order_word, settle_line, settle_word, parted, period_line, question_line, station_line, words}, specs.Lines.ended, specs.Texts.fault_line}
+use Rattle.script_lines.{specs.declared.script_line.LineFault.TheVariants.{BadLine, DeclaredLate, PlanLimit}, specs.declared.script_line.Operation.Operation, specs.declared.script_line.TxList.TxList, specs.declared.script_line.TxList.TheVariants.{Events, Readings}, specs.LineMeaning.{LineMeaning, ◌>>=◌, nothing, fails, sets_limits, declares, sets_period, sets_order, sets_settle, tells, sends, delivers, commands, asks_energy, asks_export, asks_total, asks_board, lists, asks_meaning, marks, by_bytes, by_first_word, by_words, command_line, deliver_line, is_number, is_space, list_line, tx_id, limits_line, line_meaning, moment, msg_line, name, now_line, number, order_line, order_word, settle_line, settle_word, parted, period_line, question_line, station_line, words}, specs.Lines.ended, specs.Texts.fault_line}
 use Rattle.script_lines.specs.declared.script_line.Operation.TheVariants as operation
+use Rattle.script_ledgers.proofs.Told.{delivered_state}
 use Rattle.script_ledgers.specs.Script.{KeepsSites, Script, are_limits, by_meaning, limited_to, line_step, sent_to, station_named, step_by}
 use Rattle.transaction_event.specs.Message.{Meaning, Ready, message}
 use Rattle.journal_script.{proofs.LastByte.{keeps_last, last, last_apart, last_behind}, proofs.NotJson.{hash_not_read, s_not_read}, proofs.Unheard.{IsAnswered, answered_where_not_read}}
@@ -132,12 +133,14 @@ Idle (sets_order _ _) = ⊥
 Idle (sets_settle _ _) = ⊥
 Idle (tells _) = ⊤
 Idle (sends _ text) = IsAnswered text
+Idle (delivers _ text) = IsAnswered text
 Idle (commands _ _) = ⊥
 Idle (asks_energy _) = ⊤
 Idle (asks_export _) = ⊤
 Idle (asks_total _) = ⊤
 Idle (asks_board _) = ⊤
 Idle (lists _ _ _) = ⊤
+Idle (asks_meaning _) = ⊤
 Idle (marks _) = ⊤
 
 idle_if : (b : Bool) (m n : LineMeaning) → (b ≡ true → Idle m) → (b ≡ false → Idle n) → Idle (cond b m n)
@@ -229,6 +232,12 @@ module _ (c : ℕ) (no_space : (32 == c) ≡ false) (no_digit : is_ascii_digit c
   idle_msg (a ∷ []) h = tt
   idle_msg (a ∷ b ∷ d ∷ line) h = tt
 
+  idle_deliver : (line : List (List ℕ)) → Ends c line → Idle (deliver_line line)
+  idle_deliver (station ∷ text ∷ []) h = idle_read (name station) _ (λ at. idle_text at text h)
+  idle_deliver [] h = tt
+  idle_deliver (a ∷ []) h = tt
+  idle_deliver (a ∷ b ∷ d ∷ line) h = tt
+
   idle_period : (line : List (List ℕ)) → Ends c line → Idle (period_line line)
   idle_period (site ∷ seconds ∷ []) h = idle_read (name site) _ (λ _. idle_none (number seconds) _ (no_number seconds h))
   idle_period [] h = tt
@@ -272,6 +281,8 @@ module _ (c : ℕ) (no_space : (32 == c) ≡ false) (no_digit : is_ascii_digit c
       let end = last_part c text line h e in
       let there = marked_part word rest (ap is_marked (sym (parted_is text line e)) ∙ m) in
       idle_if (bytes_eq word (codes "msg")) _ _ (λ _. idle_msg (words 2 rest) (last_word c 2 rest end))
+      (λ _. idle_if (bytes_eq word (codes "deliver")) _ _ (λ _. idle_deliver (words 2 rest) (last_word c 2 rest end))
+      (λ _. idle_if (bytes_eq word (codes "asks")) _ _ (λ _. tt)
       (λ _. idle_if (bytes_eq word (codes "station")) _ _ (λ is. idle_station (words 2 rest) (marked_words 2 rest (behind_station line is there)))
       (λ _. idle_if (bytes_eq word (codes "limits")) _ _ (λ _. idle_limits (words 4 rest))
       (λ _. idle_if (bytes_eq word (codes "period")) _ _ (λ _. idle_period (words 2 rest) (last_word c 2 rest end))
@@ -287,7 +298,7 @@ module _ (c : ℕ) (no_space : (32 == c) ≡ false) (no_digit : is_ascii_digit c
       (λ _. idle_if (bytes_eq word (codes "mark")) _ _ (λ _. idle_question marks (λ _. tt) (words 1 rest))
       (λ _. idle_if (bytes_eq word (codes "void")) _ _ (λ _. idle_command operation.Void (words 3 rest) (last_word c 3 rest end))
       (λ _. idle_if (bytes_eq word (codes "restore")) _ _ (λ _. idle_command operation.Restore (words 3 rest) (last_word c 3 rest end))
-      (λ _. idle_if (bytes_eq word (codes "erase")) _ _ (λ _. idle_command operation.Erase (words 3 rest) (last_word c 3 rest end)) (λ _. tt)))))))))))))))))
+      (λ _. idle_if (bytes_eq word (codes "erase")) _ _ (λ _. idle_command operation.Erase (words 3 rest) (last_word c 3 rest end)) (λ _. tt)))))))))))))))))))
 
   idle_parted : (text : List ℕ) (o : Option (List ℕ × List ℕ)) → last 32 text ≡ c → is_marked text ≡ true → parted text ≡ o → Idle (o >>= by_first_word)
   idle_parted text None h m e = tt
@@ -338,12 +349,14 @@ stays_step s (sets_order _ _) idle = absurd idle
 stays_step s (sets_settle _ _) idle = absurd idle
 stays_step s (tells _) idle = (refl, record { sites = refl; periods = refl; orders = refl })
 stays_step s (sends name text) idle = stays_sent s (station_named name s.world) text idle
+stays_step s (delivers name text) idle = subst (Stays s) (sym (delivered_state (station_named name s.world) s text)) (stays_sent s (station_named name s.world) text idle)
 stays_step s (commands _ _) idle = absurd idle
 stays_step s (asks_energy _) idle = (refl, record { sites = refl; periods = refl; orders = refl })
 stays_step s (asks_export _) idle = (refl, record { sites = refl; periods = refl; orders = refl })
 stays_step s (asks_total _) idle = (refl, record { sites = refl; periods = refl; orders = refl })
 stays_step s (asks_board _) idle = (refl, record { sites = refl; periods = refl; orders = refl })
 stays_step s (lists _ _ _) idle = (refl, record { sites = refl; periods = refl; orders = refl })
+stays_step s (asks_meaning _) idle = (refl, record { sites = refl; periods = refl; orders = refl })
 stays_step s (marks _) idle = (refl, record { sites = refl; periods = refl; orders = refl })
 
 -- a line with a `#`, which ends with it or with the run's comment, changes nothing that is shown

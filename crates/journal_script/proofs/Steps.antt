@@ -3,7 +3,8 @@ use Rattle.std.{proofs.Common.{◌≡◌, ℕ, ◌<◌, Bool, true, false, cond,
 use Rattle.kept_desk.{specs.declared.entry.Entry.Entry, specs.Entries.{line_text, text_of}, specs.Speaking.{AsksFor, Says, Speaks}}
 use Rattle.ledger_model.{specs.declared.command.Command.Command, specs.World.{Station, World, Happens, run, station_after, world_after}}
 use Rattle.transaction_event.specs.Message.{Meaning, Event, message}
-use Rattle.script_lines.{specs.LineMeaning.{LineMeaning, nothing, fails, sets_limits, declares, sets_period, sets_order, sets_settle, tells, sends, commands, asks_energy, asks_export, asks_total, asks_board, lists, marks, line_meaning}, specs.Lines.{Line, ended, lines_of, unended}, specs.Ranges.longest_line, proofs.Cuts.cut-ended}
+use Rattle.script_lines.{specs.LineMeaning.{LineMeaning, nothing, fails, sets_limits, declares, sets_period, sets_order, sets_settle, tells, sends, delivers, commands, asks_energy, asks_export, asks_total, asks_board, lists, asks_meaning, marks, line_meaning}, specs.Lines.{Line, ended, lines_of, unended}, specs.Ranges.longest_line, proofs.Cuts.cut-ended}
+use Rattle.script_ledgers.proofs.Told.{delivered_state}
 use Rattle.script_ledgers.specs.Script.{KeepsSites, Script, by_meaning, commanded_to, line_step, sent_to, station_named, step_by, script_after}
 use Rattle.site_desk.specs.declared.plan.StationPlan.{StationPlan}
 use Rattle.journal_script.{specs.Journals.{IsSpoken, station_name}, proofs.Notes.{note_after, note_whole}, proofs.Whole.{after_both, lines_apart}}
@@ -76,12 +77,16 @@ takes_step s (sets_order _ _) name command station says found = absurd says
 takes_step s (sets_settle _ _) name command station says found = absurd says
 takes_step s (tells _) name command station says found = absurd says
 takes_step s (sends at text) name command station says found = takes_sent (station_named at s.world) s text command station (ap (λ n. station_named n s.world) says.0 ∙ found) says.1
+takes_step s (delivers at text) name command station says found =
+    subst (λ t. Takes s t station.name command) (sym (delivered_state (station_named at s.world) s text))
+    (takes_sent (station_named at s.world) s text command station (ap (λ n. station_named n s.world) says.0 ∙ found) says.1)
 takes_step s (commands at asked) name command station says found = takes_commanded (station_named at s.world) s asked command station (ap (λ n. station_named n s.world) says.0 ∙ found) says.1
 takes_step s (asks_energy _) name command station says found = absurd says
 takes_step s (asks_export _) name command station says found = absurd says
 takes_step s (asks_total _) name command station says found = absurd says
 takes_step s (asks_board _) name command station says found = absurd says
 takes_step s (lists _ _ _) name command station says found = absurd says
+takes_step s (asks_meaning _) name command station says found = absurd says
 takes_step s (marks _) name command station says found = absurd says
 
 takes_line : (s : Script) (name line : List ℕ) (command : Command) → Speaks name line command → Has s.world name → Takes s (line_step s (Some line)).0 name command

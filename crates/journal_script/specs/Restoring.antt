@@ -40,9 +40,9 @@ is_cut None = false
 is_cut (Some bytes) = ends_with_byte 35 bytes || ends_with eqb bytes run_line
 
 -- Whether the answer to a line says that the line changed nothing: a fault, a refusal or a
--- CALLERROR.
+-- CALLERROR, as `msg` or as `deliver` writes it.
 abbrev pub leaves_nothing : List ℕ → Bool
-leaves_nothing reply = starts_with eqb reply (codes "fault ") || (starts_with eqb reply (codes "refused ") || starts_with eqb reply (codes "[4,"))
+leaves_nothing reply = starts_with eqb reply (codes "fault ") || (starts_with eqb reply (codes "refused ") || (starts_with eqb reply (codes "[4,") || starts_with eqb reply (codes "reply [4,")))
 
 -- Whether a line with this answer is lost: it changed nothing, and no kill cut it.
 abbrev pub is_lost : List ℕ → Line → Bool

@@ -73,7 +73,10 @@ fn tell_number<T: Write>(told: &mut T, number: u64)
 fn leaves_nothing(reply: &[u8]) -> bool
     ensures { result ≡ leaves_nothing reply.now }
 {
-    reply.starts_with(b"fault ") || reply.starts_with(b"refused ") || reply.starts_with(b"[4,")
+    reply.starts_with(b"fault ")
+        || reply.starts_with(b"refused ")
+        || reply.starts_with(b"[4,")
+        || reply.starts_with(b"reply [4,")
 }
 
 // Returns whether a line ends with `#`.

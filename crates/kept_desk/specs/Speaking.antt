@@ -3,7 +3,7 @@ use Rattle.std.{specs.Prelude.{◌≡◌, ℕ, ◌<◌, ◌≤◌, List, All, le
 use Rattle.kept_desk.specs.declared.entry.Entry.{Entry}
 use Rattle.ledger_model.{specs.declared.command.Command.Command, specs.declared.command.Command.TheVariants.Deliver}
 use Rattle.transaction_event.{specs.Message.{Event, message}, specs.Request.Request}
-use Rattle.script_lines.{specs.LineMeaning.{LineMeaning, nothing, fails, sets_limits, declares, sets_period, sets_order, sets_settle, tells, sends, commands, asks_energy, asks_export, asks_total, asks_board, lists, marks, line_meaning}, specs.Lines.HasNoFeed, specs.Ranges.longest_line}
+use Rattle.script_lines.{specs.LineMeaning.{LineMeaning, nothing, fails, sets_limits, declares, sets_period, sets_order, sets_settle, tells, sends, delivers, commands, asks_energy, asks_export, asks_total, asks_board, lists, asks_meaning, marks, line_meaning}, specs.Lines.HasNoFeed, specs.Ranges.longest_line}
 
 -- The text is a message that asks for this command, at any moment.
 pub record AsksFor (text : List ℕ) (command : Command) : Type 0 where
@@ -23,12 +23,14 @@ Says (sets_order _ _) name command = ⊥
 Says (sets_settle _ _) name command = ⊥
 Says (tells _) name command = ⊥
 Says (sends at text) name command = (at ≡ name) × AsksFor text command
+Says (delivers at text) name command = (at ≡ name) × AsksFor text command
 Says (commands at asked) name command = (at ≡ name) × (asked ≡ command)
 Says (asks_energy _) name command = ⊥
 Says (asks_export _) name command = ⊥
 Says (asks_total _) name command = ⊥
 Says (asks_board _) name command = ⊥
 Says (lists _ _ _) name command = ⊥
+Says (asks_meaning _) name command = ⊥
 Says (marks _) name command = ⊥
 
 -- The bytes are one line of a script, and that line asks for this command on the station of this name.

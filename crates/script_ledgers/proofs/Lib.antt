@@ -8,3 +8,4 @@ pub mod Opened
 pub mod Parted
 pub mod Named
 pub mod Boards
+pub mod Told

@@ -6,7 +6,7 @@ use Rattle.site_desk.{specs.declared.plan.StationPlan.StationPlan, specs.Cell.{C
 use Rattle.transaction_event.{specs.declared.message.Message.Message, specs.Message.message, specs.MessageMeaning.IsMeaningOf}
 use Rattle.transaction_event.specs.declared.message.Message.TheVariants as read
 use Rattle.board_report.proofs.SiteBoards.{stands}
-use Rattle.script_ledgers.{specs.Drafts.{Drafted, planned_world, site_name}, specs.declared.told.Told.Told, specs.declared.told.Told.TheVariants.{Outcome, Reply}, specs.Received.{TakesMessage, telling}, specs.Running.{IsRunning, Settles, filled, running}, specs.Script.{Script, by_meaning, commanded_to, new_station, order_named, period_named, delivered_to, sent_to, station_named, step_by, told_by}, proofs.Boards.at_site, proofs.Places.{is_station, unnamed}, proofs.SettledBy.{order_found, period_found}, proofs.Settling.{alike_running, planned_at, site_within, station_at}}
+use Rattle.script_ledgers.{specs.Drafts.{Drafted, planned_world, site_name}, specs.declared.detail.Detail.Detail, specs.declared.detail.Detail.TheVariants.{Outcome, Reply}, specs.Detail.message_line, specs.Received.TakesMessage, specs.Running.{IsRunning, Settles, filled, running}, specs.Script.{Script, by_meaning, commanded_to, new_station, order_named, period_named, delivered_to, sent_to, station_named, step_by, told_by}, proofs.Boards.at_site, proofs.Places.{is_station, unnamed}, proofs.SettledBy.{order_found, period_found}, proofs.Settling.{alike_running, planned_at, site_within, station_at}}
 use Rattle.script_lines.{specs.declared.script_line.LineFault.TheVariants.UnknownStation, specs.Texts.{answer_text, ended_line, fault_line}}
 
 pub some_of : {X : Type 0} (o : Option X) (x : X) (P : X → Type 0) → o ≡ Some x → IfSome o P → P x
@@ -98,14 +98,14 @@ became old new s (read.Reply shown false) reply text opened is took =
 became old new s read.Silent reply text opened is took =
     ap (λ x. told_by x s old) is ∙ (λ i. (record old { opened = sym opened i }, sym took.1 i)) ∙ (λ i. (sym took.0 i, reply))
 
-pub received : (told : Told) (old new : Script) (o : Option Station) (s : Station) (m : Message) (reply text name : List ℕ) → old.opened ≡ true
-    → station_named name old.world ≡ o → o ≡ Some s → IsMeaningOf text old.moment m → TakesMessage told old new s m reply
-    → step_by old (telling told name text) ≡ (new, reply)
+pub received : (detail : Detail) (old new : Script) (o : Option Station) (s : Station) (m : Message) (reply text name : List ℕ) → old.opened ≡ true
+    → station_named name old.world ≡ o → o ≡ Some s → IsMeaningOf text old.moment m → TakesMessage detail old new s m reply
+    → step_by old (message_line detail name text) ≡ (new, reply)
 received Reply old new o s m reply text name opened found e is took = ap (λ x. sent_to x old text) (found ∙ e) ∙ meant old new s m reply text opened is took
 received Outcome old new o s m reply text name opened found e is took = ap (λ x. delivered_to x old text) (found ∙ e) ∙ became old new s m reply text opened is took
 
 -- a message to a station that there is not
-pub unreceived : (told : Told) (old : Script) (text name : List ℕ) → old.opened ≡ true → station_named name old.world ≡ None
-    → step_by old (telling told name text) ≡ (old, fault_line UnknownStation)
+pub unreceived : (detail : Detail) (old : Script) (text name : List ℕ) → old.opened ≡ true → station_named name old.world ≡ None
+    → step_by old (message_line detail name text) ≡ (old, fault_line UnknownStation)
 unreceived Reply old text name opened none = ap (λ x. sent_to x old text) none ∙ (λ i. (record old { opened = sym opened i }, fault_line UnknownStation))
 unreceived Outcome old text name opened none = ap (λ x. delivered_to x old text) none ∙ (λ i. (record old { opened = sym opened i }, fault_line UnknownStation))

@@ -12,15 +12,16 @@
 #![tactic(auto)]
 
 mod asked;
+mod detail;
 mod draft;
 mod hints;
 mod line_answers;
 mod listed;
 mod opened_script;
 mod script_state;
-mod told;
 
 pub use asked::put_asked;
+pub use detail::{Detail, put_event_text, put_ready_text};
 pub use draft::Draft;
 pub use listed::{put_listed, put_mark};
 pub use script_state::{MAX_SCRIPT_BYTES, ScriptState};

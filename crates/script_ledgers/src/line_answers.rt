@@ -3,13 +3,13 @@ ghost use Rattle.std.{specs.Prelude.{◌≡◌, ℕ, ◌+◌, ◌<◌, ◌≤◌
 ghost use Rattle.board_report.specs.Texts.{board_text};
 ghost use Rattle.message_ahead.specs.Ahead.{Asks};
 ghost use Rattle.script_lines.{specs.LineMeaning.{asks_energy, asks_export, asks_total, commands, lists, sends}, specs.Lines.line_bytes, specs.ScriptLines.meaning_of};
-ghost use Rattle.script_ledgers.{specs.Received.{TakesMessageAt, telling}, specs.Running.SettlesAt, specs.Script.{board_answer, board_of_site, line_step, step_by}, specs.State.{posts_of, script_of}};
+ghost use Rattle.script_ledgers.{specs.Detail.message_line, specs.Received.TakesMessageAt, specs.Running.SettlesAt, specs.Script.{board_answer, board_of_site, line_step, step_by}, specs.State.{posts_of, script_of}};
 ghost use Rattle.transaction_event.specs.MessageMeaning.{HasShortId, asking, with_reply};
 
 use crate::asked::put_asked;
+use crate::detail::{Detail, put_event_text, put_ready_text};
 use crate::listed::{put_listed, put_mark};
 use crate::opened_script::OpenedScript;
-use crate::told::{Told, put_event, put_ready_reply};
 use board_report::{energy_text, export_text, site_text, total_text};
 use ledger_model::{Answer, Command, Name, TxId};
 use message_ahead::SentEvent;
@@ -91,8 +91,8 @@ impl<J: Naming> OpenedScript<J> {
                 self.draft.tell(moment);
                 Ok(())
             }
-            ScriptLine::Sends(name, text) => self.receive(&name, text, Told::Reply, reply),
-            ScriptLine::Delivers(name, text) => self.receive(&name, text, Told::Outcome, reply),
+            ScriptLine::Sends(name, text) => self.receive(&name, text, Detail::Reply, reply),
+            ScriptLine::Delivers(name, text) => self.receive(&name, text, Detail::Outcome, reply),
             ScriptLine::Commands(name, command) => self.command(&name, command, reply),
             ScriptLine::AsksEnergy(name) => self.put_energy(&name, reply),
             ScriptLine::AsksExport(name) => self.put_export(&name, reply),
@@ -118,30 +118,30 @@ impl<J: Naming> OpenedScript<J> {
         match self.station_number(&station) {
             Some(number) => {
                 self.hints.keep(&station, number);
-                self.deliver(number, delivery, Told::Reply, reply)
+                self.deliver(number, delivery, Detail::Reply, reply)
             }
             None => put_fault(reply, LineFault::UnknownStation),
         }
     }
 
-    // Reads and delivers a station's message, and puts what is told of it into the reply.
+    // Reads and delivers a station's message, and puts its text into the reply.
     fn receive(
         &mut self,
         name: &Name,
         text: &str,
-        told: Told,
+        detail: Detail,
         reply: &mut Vec<u8>,
     ) -> Result<(), AllocError>
         requires empty { reply.old.items ≡ [] }
         requires few { posts_of self.old < 2 ^ 62 }
-        ensures step { OnOk result (step_by (script_of self.old) (telling told name.now text.now) ≡ (script_of self.new, reply.new.items)) }
+        ensures step { OnOk result (step_by (script_of self.old) (message_line detail name.now text.now) ≡ (script_of self.new, reply.new.items)) }
         ensures posts { OnOk result (posts_of self.new ≤ posts_of self.old + 1) }
     {
         match self.station_number(name) {
             Some(number) => {
                 self.hints.keep(name, number);
                 let asked = read_message(self.alloc, text, self.draft.moment(), &mut self.text);
-                self.answer_message(number, asked, told, reply)
+                self.answer_message(number, asked, detail, reply)
             }
             None => put_fault(reply, LineFault::UnknownStation),
         }
@@ -176,47 +176,47 @@ impl<J: Naming> OpenedScript<J> {
         }
     }
 
-    // Delivers the event of a message to the station of this number, if the message has one, and puts what is told of it
+    // Delivers the event of a message to the station of this number, if the message has one, and puts its text
     // into the reply. A message that found no memory delivers nothing.
     fn answer_message(
         &mut self,
         number: usize,
         asked: Asked,
-        told: Told,
+        detail: Detail,
         reply: &mut Vec<u8>,
     ) -> Result<(), AllocError>
         requires empty { reply.old.items ≡ [] }
         requires there { number < length self.old.draft.stations }
         requires short { HasShortId (with_reply asked self.old.text) }
         requires few { posts_of self.old < 2 ^ 62 }
-        ensures takes { OnOk result (TakesMessageAt told number (script_of self.old) (script_of self.new) (with_reply asked self.old.text) reply.new.items) }
+        ensures takes { OnOk result (TakesMessageAt detail number (script_of self.old) (script_of self.new) (with_reply asked self.old.text) reply.new.items) }
         ensures posts { OnOk result (posts_of self.new ≤ posts_of self.old + 1) }
     {
         match asked {
-            Asked::Event(delivery) => self.deliver(number, delivery, told, reply),
+            Asked::Event(delivery) => self.deliver(number, delivery, detail, reply),
             Asked::Reply { memory } => {
                 if memory {
                     return Err(AllocError);
                 }
-                put_ready_reply(reply, told, self.text.as_str())
+                put_ready_text(reply, detail, self.text.as_str())
             }
             Asked::Silent => put_line(reply, "silent"),
         }
     }
 
-    // Delivers an event to the station of this number, and puts what is told of it into the reply.
+    // Delivers an event to the station of this number, and puts its text into the reply.
     fn deliver(
         &mut self,
         number: usize,
         delivery: Delivery,
-        told: Told,
+        detail: Detail,
         reply: &mut Vec<u8>,
     ) -> Result<(), AllocError>
         requires empty { reply.old.items ≡ [] }
         requires there { number < length self.old.draft.stations }
         requires short { HasShortId (asking delivery) }
         requires few { posts_of self.old < 2 ^ 62 }
-        ensures takes { OnOk result (TakesMessageAt told number (script_of self.old) (script_of self.new) (asking delivery) reply.new.items) }
+        ensures takes { OnOk result (TakesMessageAt detail number (script_of self.old) (script_of self.new) (asking delivery) reply.new.items) }
         ensures posts { OnOk result (posts_of self.new ≤ posts_of self.old + 1) }
     {
         let Delivery {
@@ -227,7 +227,7 @@ impl<J: Naming> OpenedScript<J> {
         } = delivery;
         let answer = self.settle(number, Command::Deliver(key, event));
         put_event_reply(&mut self.text, id.as_str(), token, &answer);
-        put_event(reply, told, answer, self.text.as_str())
+        put_event_text(reply, detail, answer, self.text.as_str())
     }
 
     // Settles a command on the station of this number.

@@ -1,7 +1,7 @@
 -- The commands that lines ask are admissible.
 use Rattle.std.{proofs.Common.{◌≡◌, ℕ, Bool, true, false, cond, List, [], ◌∷◌, Option, None, Some, ltb-true, refl}, specs.Prelude.{◌&&◌, ◌==◌, nat_lt, codes}, specs.Str.{bytes_eq, is_utf8}, proofs.lemmas.Bool.and_parts}
 use Rattle.ledger_model.{specs.Admissible.IsAdmissible, specs.Key.{KeyName, IsKeyName}, specs.Ranges.sequence_end, specs.TxId.{is_tx_id, folded}, proofs.Ids.IsFoldedId-folded}
-use Rattle.script_lines.{specs.declared.script_line.LineFault.TheVariants.BadLine, specs.declared.script_line.Operation.Operation, specs.declared.script_line.TxList.TxList, specs.declared.script_line.TxList.TheVariants.{Events, Readings}, specs.Lines.Line, specs.LineMeaning.{LineMeaning, ◌>>=◌, nothing, fails, sets_limits, declares, sets_period, sets_order, sets_settle, tells, sends, commands, asks_energy, asks_export, asks_total, asks_board, lists, marks, by_bytes, by_first_word, by_words, command_line, command_of, key, list_line, tx_id, limits_line, line_meaning, moment, msg_line, name, now_line, number, order_line, order_word, settle_line, settle_word, parted, period_line, question_line, station_line, words}}
+use Rattle.script_lines.{specs.declared.script_line.LineFault.TheVariants.BadLine, specs.declared.script_line.Operation.Operation, specs.declared.script_line.TxList.TxList, specs.declared.script_line.TxList.TheVariants.{Events, Readings}, specs.Lines.Line, specs.LineMeaning.{LineMeaning, ◌>>=◌, nothing, fails, sets_limits, declares, sets_period, sets_order, sets_settle, tells, sends, delivers, commands, asks_energy, asks_export, asks_total, asks_board, lists, asks_meaning, marks, by_bytes, by_first_word, by_words, command_line, command_of, deliver_line, key, list_line, tx_id, limits_line, line_meaning, moment, msg_line, name, now_line, number, order_line, order_word, settle_line, settle_word, parted, period_line, question_line, station_line, words}}
 use Rattle.script_lines.specs.declared.script_line.Operation.TheVariants as operation
 
 -- a command that the line asks is admissible
@@ -15,12 +15,14 @@ IsFine (sets_order _ _) = Unit {0}
 IsFine (sets_settle _ _) = Unit {0}
 IsFine (tells _) = Unit {0}
 IsFine (sends _ _) = Unit {0}
+IsFine (delivers _ _) = Unit {0}
 IsFine (commands name command) = IsAdmissible command
 IsFine (asks_energy _) = Unit {0}
 IsFine (asks_export _) = Unit {0}
 IsFine (asks_total _) = Unit {0}
 IsFine (asks_board _) = Unit {0}
 IsFine (lists _ _ _) = Unit {0}
+IsFine (asks_meaning _) = Unit {0}
 IsFine (marks _) = Unit {0}
 
 either : (b : Bool) (x y : LineMeaning) → IsFine x → IsFine y → IsFine (cond b x y)
@@ -60,6 +62,10 @@ fine_msg : (line : List (List ℕ)) → IsFine (msg_line line)
 fine_msg (station ∷ text ∷ []) = reads (name station) _ (λ _. tt)
 fine_msg _ = tt
 
+fine_deliver : (line : List (List ℕ)) → IsFine (deliver_line line)
+fine_deliver (station ∷ text ∷ []) = reads (name station) _ (λ _. tt)
+fine_deliver _ = tt
+
 fine_question : (asks : List ℕ → LineMeaning) → ((place : List ℕ) → IsFine (asks place)) → (line : List (List ℕ)) → IsFine (question_line asks line)
 fine_question asks all (place ∷ []) = reads (name place) _ all
 fine_question asks all _ = tt
@@ -89,6 +95,8 @@ fine_command what _ = tt
 fine_words : (line : List ℕ × List ℕ) → IsFine (by_first_word line)
 fine_words (word, rest) =
     either (bytes_eq word (codes "msg")) _ _ (fine_msg (words 2 rest))
+    (either (bytes_eq word (codes "deliver")) _ _ (fine_deliver (words 2 rest))
+    (either (bytes_eq word (codes "asks")) _ _ tt
     (either (bytes_eq word (codes "station")) _ _ (fine_station (words 2 rest))
     (either (bytes_eq word (codes "limits")) _ _ (fine_limits (words 4 rest))
     (either (bytes_eq word (codes "period")) _ _ (fine_period (words 2 rest))
@@ -104,7 +112,7 @@ fine_words (word, rest) =
     (either (bytes_eq word (codes "mark")) _ _ (fine_question marks (λ _. tt) (words 1 rest))
     (either (bytes_eq word (codes "void")) _ _ (fine_command operation.Void (words 3 rest))
     (either (bytes_eq word (codes "restore")) _ _ (fine_command operation.Restore (words 3 rest))
-    (either (bytes_eq word (codes "erase")) _ _ (fine_command operation.Erase (words 3 rest)) tt))))))))))))))))
+    (either (bytes_eq word (codes "erase")) _ _ (fine_command operation.Erase (words 3 rest)) tt))))))))))))))))))
 
 fine_bytes : (bytes : List ℕ) → IsFine (by_bytes bytes)
 fine_bytes [] = tt

@@ -2,9 +2,9 @@
 use Rattle.std.proofs.Common.{◌≡◌, ℕ, Bool, true, false, cond, List, [], ◌∷◌, Option, None, Some, refl, ap, arith}
 use Rattle.ledger_model.{specs.declared.answer.Answer.Answer, specs.declared.answer.Answer.TheVariants.{Accepted, Repeat, Refused}, specs.declared.command.Command.Command, specs.declared.order.Order.Order, specs.World.Station, specs.Periods.Periods}
 use Rattle.transaction_event.{specs.Message.{Meaning, Event, Ready, Silence, message}, specs.Reply.event_reply_bytes}
-use Rattle.script_lines.{specs.declared.script_line.LineFault.LineFault, specs.declared.script_line.LineFault.TheVariants.{DeclaredLate, PlanLimit}, specs.Texts.{answer_text, ended_line, fault_line}, specs.LineMeaning.{LineMeaning, nothing, fails, sets_limits, declares, sets_period, sets_order, sets_settle, tells, sends, commands, asks_energy, asks_export, asks_total, asks_board, lists, marks, line_meaning}}
+use Rattle.script_lines.{specs.declared.script_line.LineFault.LineFault, specs.declared.script_line.LineFault.TheVariants.{DeclaredLate, PlanLimit}, specs.Texts.{answer_text, delivered_line, ended_line, fault_line}, specs.LineMeaning.{LineMeaning, nothing, fails, sets_limits, declares, sets_period, sets_order, sets_settle, tells, sends, delivers, commands, asks_energy, asks_export, asks_total, asks_board, lists, asks_meaning, marks, line_meaning}}
 use Rattle.script_replay.specs.Laws.{FaultsChangeNothing}
-use Rattle.script_ledgers.specs.Script.{Script, are_limits, by_meaning, commanded_to, declared_to, is_past_plan, is_period, joined_by, lasting, limited_to, order_to, ordered_by, period_to, sent_to, settle_to, settled_by, settling, site_number, station_named, step_by}
+use Rattle.script_ledgers.specs.Script.{Script, are_limits, by_meaning, commanded_to, declared_to, delivered_to, is_past_plan, is_period, joined_by, lasting, limited_to, order_to, ordered_by, period_to, sent_to, settle_to, settled_by, settling, site_number, station_named, step_by, told_by}
 
 -- nothing has changed but whether the ledgers are opened
 abbrev Same : Script → Script × List ℕ → Type 0
@@ -76,6 +76,21 @@ meant (Event id request) station s fault e = absurd (some_reply id request.token
 meant (Ready reply) station s fault e = refl
 meant Silence station s fault e = refl
 
+-- no text of a delivery is a fault's text
+some_delivered : (answer : Answer) (reply : List ℕ) (fault : LineFault) → delivered_line answer reply ≡ fault_line fault → ⊥
+some_delivered (Accepted n) reply fault e = let same : 97 ≡ 102 = not_one_head 97 _ _ e in omega (arith, same)
+some_delivered Repeat reply fault e = let same : 114 ≡ 102 = not_one_head 114 _ _ e in omega (arith, same)
+some_delivered (Refused why) reply fault e = let same : 114 ≡ 102 = not_one_head 114 _ _ e in omega (arith, same)
+
+told : (meaning : Meaning) (station : Station) (s : Script) → Holds s (told_by meaning station s)
+told (Event id request) station s fault e = absurd (some_delivered _ _ fault e)
+told (Ready reply) station s fault e = refl
+told Silence station s fault e = refl
+
+delivered : (station : Option Station) (s : Script) (text : List ℕ) → Holds s (delivered_to station s text)
+delivered None s text fault e = refl
+delivered (Some station) s text fault e = told (message text s.moment) station s fault e
+
 sent_by : (station : Option Station) (s : Script) (text : List ℕ) → Holds s (sent_to station s text)
 sent_by None s text fault e = refl
 sent_by (Some station) s text fault e = meant (message text s.moment) station s fault e
@@ -90,12 +105,14 @@ steps s (sets_order site order) fault e = late s.opened s (order_to s site order
 steps s (sets_settle site rule) fault e = late s.opened s (settle_to s site rule) (settled (site_number site s.sites) s (settling rule)) fault e
 steps s (tells nanos) fault e = absurd (some_text fault e)
 steps s (sends name text) fault e = sent_by (station_named name s.world) s text fault e
+steps s (delivers name text) fault e = delivered (station_named name s.world) s text fault e
 steps s (commands name command) fault e = commanded (station_named name s.world) s command fault e
 steps s (asks_energy name) fault e = refl
 steps s (asks_export name) fault e = refl
 steps s (asks_total name) fault e = refl
 steps s (asks_board site) fault e = refl
 steps s (lists what name tx) fault e = refl
+steps s (asks_meaning text) fault e = refl
 steps s (marks word) fault e = refl
 
 pub faults_change_nothing : FaultsChangeNothing

@@ -7,3 +7,4 @@ pub mod ReachedStations
 pub mod ScriptRuns
 pub mod SiteSums
 pub mod LiveEvents
+pub mod Delivers

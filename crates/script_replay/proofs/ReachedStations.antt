@@ -3,7 +3,8 @@ use Rattle.std.{proofs.Common.{◌≡◌, ℕ, suc, ◌+◌, Bool, true, false, 
 use Rattle.ledger_model.{specs.declared.answer.Answer.Answer, specs.declared.answer.Answer.TheVariants.{Accepted, Repeat, Refused}, specs.declared.command.Command.Command, specs.declared.command.Command.TheVariants.Deliver, specs.declared.order.Order.Order, specs.Admissible.IsAdmissible, specs.Content.Content, specs.Laws.IsAccepted, specs.Limits.Bounds, specs.Step.{Reached, answer, content_after, step}, specs.World.{Station, World, station_after, world_after}, proofs.ReachedContents.is_counted, specs.Periods.Periods}
 use Rattle.transaction_event.{specs.Message.{Meaning, Event, Ready, Silence, message}, specs.Request.Request, proofs.AdmissibleRequests.each_delivery_is_admissible}
 use Rattle.script_replay.{specs.Laws.{StationsAreReached, EnergyIsFromScratch, ExportIsFromScratch, ListsAreFromScratch, TotalsAreFromScratch, BoardsAreFromScratch}, proofs.AdmissibleLines.{IsFine, fine_line}}
-use Rattle.script_lines.{specs.Lines.Line, specs.Texts.fault_line, specs.LineMeaning.{LineMeaning, nothing, fails, sets_limits, declares, sets_period, sets_order, sets_settle, tells, sends, commands, asks_energy, asks_export, asks_total, asks_board, lists, marks, line_meaning}, specs.declared.script_line.LineFault.TheVariants.{DeclaredLate, PlanLimit, UnknownSite}}
+use Rattle.script_lines.{specs.Lines.Line, specs.Texts.fault_line, specs.LineMeaning.{LineMeaning, nothing, fails, sets_limits, declares, sets_period, sets_order, sets_settle, tells, sends, delivers, commands, asks_energy, asks_export, asks_total, asks_board, lists, asks_meaning, marks, line_meaning}, specs.declared.script_line.LineFault.TheVariants.{DeclaredLate, PlanLimit, UnknownSite}}
+use Rattle.script_ledgers.proofs.Told.{delivered_state}
 use Rattle.script_ledgers.specs.Script.{Script, are_limits, by_meaning, commanded_to, declared_to, energy_answer, export_answer, is_among, is_past_plan, is_period, joined_by, lasting, limited_to, line_step, new_station, order_named, order_to, ordered_by, period_named, period_to, sent_to, settle_to, settled_by, settling, shown_site, site_number, start, station_named, stations_of, step_by, total_answer, script_after, list_answer}
 use Rattle.board_report.specs.Texts.{board_text}
 
@@ -168,12 +169,15 @@ kept_step s (sets_order site order) fine kept = kept_late s.opened s (order_to s
 kept_step s (sets_settle site rule) fine kept = kept_late s.opened s (settle_to s site rule) kept (kept_settled (site_number site s.sites) s (settling rule) kept)
 kept_step s (tells _) fine kept = kept
 kept_step s (sends name text) fine kept = kept_sent (station_named name s.world) s text kept
+kept_step s (delivers name text) fine kept =
+    subst (λ (t : Script). Kept t.world) (sym (delivered_state (station_named name s.world) s text)) (kept_sent (station_named name s.world) s text kept)
 kept_step s (commands name command) fine kept = kept_commanded (station_named name s.world) s command fine kept
 kept_step s (asks_energy name) fine kept = kept
 kept_step s (asks_export name) fine kept = kept
 kept_step s (asks_total name) fine kept = kept
 kept_step s (asks_board site) fine kept = kept
 kept_step s (lists what name tx) fine kept = kept
+kept_step s (asks_meaning text) fine kept = kept
 kept_step s (marks word) fine kept = kept
 
 kept_after : (s : Script) (lines : List Line) → Kept s.world → Kept (script_after s lines).world

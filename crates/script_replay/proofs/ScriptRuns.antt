@@ -2,8 +2,9 @@
 use Rattle.std.{proofs.Common.{◌≡◌, ℕ, Bool, true, false, cond, List, [], ◌∷◌, ◌++◌, Option, None, Some, All, bytes_eq, refl, sym, ap, subst, ◌∙◌, append-nil, append_assoc, suc, arith}, proofs.lemmas.Bool.false≢true, proofs.lemmas.List.map-append, proofs.lemmas.List.Elements.{All-append, All-cons, All-nil}}
 use Rattle.ledger_model.{specs.declared.command.Command.Command, specs.declared.command.Command.TheVariants.Deliver, specs.declared.order.Order.Order, specs.Content.empty_content, specs.World.{Station, World, Happens, run, station_after, world_after}, specs.WorldLaws.{AreReordered, IsDelivery}, proofs.Runs.{reordered_runs, run_append}, specs.Periods.Periods}
 use Rattle.transaction_event.specs.Message.{Meaning, Event, Ready, Silence, message}
-use Rattle.script_lines.{specs.declared.script_line.LineFault.TheVariants.{DeclaredLate, PlanLimit}, specs.Lines.Line, specs.LineMeaning.{LineMeaning, nothing, fails, sets_limits, declares, sets_period, sets_order, sets_settle, tells, sends, commands, asks_energy, asks_export, asks_total, asks_board, lists, marks, line_meaning}, specs.Texts.fault_line}
+use Rattle.script_lines.{specs.declared.script_line.LineFault.TheVariants.{DeclaredLate, PlanLimit}, specs.Lines.Line, specs.LineMeaning.{LineMeaning, nothing, fails, sets_limits, declares, sets_period, sets_order, sets_settle, tells, sends, delivers, commands, asks_energy, asks_export, asks_total, asks_board, lists, asks_meaning, marks, line_meaning}, specs.Texts.fault_line}
 use Rattle.script_replay.{specs.Laws.{asked_by, asked_of, commanded_by, emptied, happened, sent_by, IsNoOperation, OrderChangesNoBoard, UnacceptedChangesNothing, WorldsAreRuns}, proofs.ReachedStations.{kept_from_start, same_world}}
+use Rattle.script_ledgers.proofs.Told.{delivered_state}
 use Rattle.script_ledgers.specs.Script.{KeepsSites, Script, start, are_limits, board_answer, by_meaning, commanded_to, declared_to, is_past_plan, is_period, joined_by, lasting, limited_to, line_step, order_to, ordered_by, period_to, sent_to, settle_to, settled_by, settling, site_number, station_named, step_by, script_after}
 
 -- ---- stations without events
@@ -99,12 +100,15 @@ run_step s (sets_order site order) hs ran = run_late s.opened s (order_to s site
 run_step s (sets_settle site rule) hs ran = run_late s.opened s (settle_to s site rule) hs refl ran (λ f. run_settled (site_number site s.sites) s (settling rule) hs ran)
 run_step s (tells nanos) hs ran = still s (record s { moment = nanos }) hs refl (λ f. f) ran
 run_step s (sends name text) hs ran = run_sent (station_named name s.world) s text hs ran
+run_step s (delivers name text) hs ran =
+    subst (λ t. IsRun t (hs ++ sent_by (station_named name s.world) text s.moment)) (sym (delivered_state (station_named name s.world) s text)) (run_sent (station_named name s.world) s text hs ran)
 run_step s (commands name command) hs ran = run_commanded (station_named name s.world) s command hs ran
 run_step s (asks_energy name) hs ran = still s (record s { opened = true }) hs refl (λ f. absurd (false≢true (sym f))) ran
 run_step s (asks_export name) hs ran = still s (record s { opened = true }) hs refl (λ f. absurd (false≢true (sym f))) ran
 run_step s (asks_total name) hs ran = still s (record s { opened = true }) hs refl (λ f. absurd (false≢true (sym f))) ran
 run_step s (asks_board site) hs ran = still s (record s { opened = true }) hs refl (λ f. absurd (false≢true (sym f))) ran
 run_step s (lists what name tx) hs ran = still s (record s { opened = true }) hs refl (λ f. absurd (false≢true (sym f))) ran
+run_step s (asks_meaning text) hs ran = still s s hs refl (λ f. f) ran
 run_step s (marks word) hs ran = still s s hs refl (λ f. f) ran
 
 run_lines : (s : Script) (lines : List Line) (hs : List Happens) → IsRun s hs → IsRun (script_after s lines) (hs ++ happened s lines)
@@ -125,17 +129,17 @@ Asks s t name command = (t.world ≡ world_after s.world (name, command)) × Kee
 one_asked : (s : Script) (t : Script) (a b : Happens) → a ∷ [] ≡ b ∷ [] → t.world ≡ world_after s.world a → KeepsSites s t → Asks s t b.0 b.1
 one_asked s t a b e world kept = let same : a ≡ b = cc e in (world ∙ ap (world_after s.world) same, kept)
 
-asks_meaning : (meaning : Meaning) (station : Station) (s : Script) (name : List ℕ) (command : Command)
+asks_told : (meaning : Meaning) (station : Station) (s : Script) (name : List ℕ) (command : Command)
     → asked_by meaning station ≡ (name, command) ∷ [] → Asks s (by_meaning meaning station s).0 name command
-asks_meaning (Event id request) station s name command e =
+asks_told (Event id request) station s name command e =
     one_asked s (by_meaning (Event id request) station s).0 (station.name, Deliver request.key request.event) (name, command) e refl
     (record { sites = refl; periods = refl; orders = refl })
-asks_meaning (Ready reply) station s name command e = cc e
-asks_meaning Silence station s name command e = cc e
+asks_told (Ready reply) station s name command e = cc e
+asks_told Silence station s name command e = cc e
 
 asks_sent : (station : Option Station) (s : Script) (text name : List ℕ) (command : Command) → sent_by station text s.moment ≡ (name, command) ∷ [] → Asks s (sent_to station s text).0 name command
 asks_sent None s text name command e = cc e
-asks_sent (Some station) s text name command e = asks_meaning (message text s.moment) station s name command e
+asks_sent (Some station) s text name command e = asks_told (message text s.moment) station s name command e
 
 asks_commanded : (station : Option Station) (s : Script) (asked : Command) (name : List ℕ) (command : Command)
     → commanded_by station asked ≡ (name, command) ∷ [] → Asks s (commanded_to station s asked).0 name command
@@ -153,12 +157,15 @@ asks_step s (sets_order _ _) name command e = cc e
 asks_step s (sets_settle _ _) name command e = cc e
 asks_step s (tells _) name command e = cc e
 asks_step s (sends at text) name command e = asks_sent (station_named at s.world) s text name command e
+asks_step s (delivers at text) name command e =
+    subst (λ t. Asks s t name command) (sym (delivered_state (station_named at s.world) s text)) (asks_sent (station_named at s.world) s text name command e)
 asks_step s (commands at asked) name command e = asks_commanded (station_named at s.world) s asked name command e
 asks_step s (asks_energy _) name command e = cc e
 asks_step s (asks_export _) name command e = cc e
 asks_step s (asks_total _) name command e = cc e
 asks_step s (asks_board _) name command e = cc e
 asks_step s (lists _ _ _) name command e = cc e
+asks_step s (asks_meaning _) name command e = cc e
 asks_step s (marks _) name command e = cc e
 
 pub unaccepted_changes_nothing : UnacceptedChangesNothing
@@ -188,12 +195,14 @@ delivers_line s (sets_order _ _) is = All-nil (λ h. IsDelivery h.1)
 delivers_line s (sets_settle _ _) is = All-nil (λ h. IsDelivery h.1)
 delivers_line s (tells _) is = All-nil (λ h. IsDelivery h.1)
 delivers_line s (sends name text) is = delivers_sent (station_named name s.world) text s.moment
+delivers_line s (delivers name text) is = delivers_sent (station_named name s.world) text s.moment
 delivers_line s (commands _ _) is = absurd is
 delivers_line s (asks_export _) is = All-nil (λ h. IsDelivery h.1)
 delivers_line s (asks_energy _) is = All-nil (λ h. IsDelivery h.1)
 delivers_line s (asks_total _) is = All-nil (λ h. IsDelivery h.1)
 delivers_line s (asks_board _) is = All-nil (λ h. IsDelivery h.1)
 delivers_line s (lists _ _ _) is = All-nil (λ h. IsDelivery h.1)
+delivers_line s (asks_meaning _) is = All-nil (λ h. IsDelivery h.1)
 delivers_line s (marks _) is = All-nil (λ h. IsDelivery h.1)
 
 delivers_lines : (s : Script) (lines : List Line) → All (λ line. IsNoOperation (line_meaning line)) lines → All (λ h. IsDelivery h.1) (happened s lines)

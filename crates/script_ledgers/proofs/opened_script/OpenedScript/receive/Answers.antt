@@ -6,7 +6,7 @@ use Rattle.script_ledgers.proofs.opened_script.OpenedScript.receive.Goals as goa
 pub returns-in-Some-clause-step : goal.returns-in-Some-clause-step
 returns-in-Some-clause-step g c =
     let s = c.args.self.now in
-    let told = c.args.told in
+    let detail = c.args.detail in
     let of = is_of s.draft s.cells.items s.books.items s.passes.items s.running c.args.name.now c.in-Some.number c.station_number.result c.station_number.ensures c.in-Some.is in
     let old = script_of s in
     let new = script_of c.answer_message.new.self in
@@ -15,8 +15,8 @@ returns-in-Some-clause-step g c =
     let means = subst (λ n. IsMeaningOf c.args.text.now n m) c.moment.ensures c.read_message-asked.ensures.meaning in
     ok_told c.answer_message.result _ _
     (λ h.
-    let took = some_of _ of.at.station (λ t. TakesMessage told old new t m reply) of.at.there h in
-    received told old new _ of.at.station m reply c.args.text.now c.args.name.now refl refl of.named means took)
+    let took = some_of _ of.at.station (λ t. TakesMessage detail old new t m reply) of.at.there h in
+    received detail old new _ of.at.station m reply c.args.text.now c.args.name.now refl refl of.named means took)
     c.answer_message.ensures.takes
 
 pub returns-in-None-clause-step : goal.returns-in-None-clause-step
@@ -24,4 +24,4 @@ returns-in-None-clause-step g c =
     let s = c.args.self.now in
     let none = is_none s.draft s.cells.items s.books.items s.passes.items s.running c.args.name.now c.station_number.result c.station_number.ensures c.in-None.is in
     written_whole c.put_fault.result (script_of s) _ c.args.reply.now.items c.put_fault.new.reply.items _
-    (unreceived c.args.told (script_of s) c.args.text.now c.args.name.now refl none) c.requires.empty c.put_fault.ensures
+    (unreceived c.args.detail (script_of s) c.args.text.now c.args.name.now refl none) c.requires.empty c.put_fault.ensures
