@@ -8,3 +8,4 @@ pub mod LonePairs
 pub mod LoneFigures
 pub mod LoneBoards
 pub mod SiteBoards
+pub mod OwnCommands

@@ -1,2 +1,4 @@
 pub mod LoneWorlds
 pub mod LoneSteps
+pub mod LoneTexts
+pub mod SiteTexts

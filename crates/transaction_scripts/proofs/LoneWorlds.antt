@@ -3,16 +3,21 @@ use Rattle.std.{proofs.Common.{◌≡◌, ℕ, ◌≤◌, Bool, true, false, con
 use Rattle.ledger_model.{specs.declared.command.Command.Command, specs.Content.empty_content, specs.Limits.Bounds, specs.Step.{answer, step}, specs.World.{Station, World, Happens, station_after, world_after}, proofs.ReachedContents.is_counted, proofs.SumsByTransaction.{one_text, same_text}}
 use Rattle.script_ledgers.specs.Script.{is_among, new_station, station_named}
 use Rattle.transaction_laws.{specs.Alone.{IsStepAlone, alone, changes_after}, specs.Transcript.is_own, proofs.AloneEvents.none_alone, proofs.LoneEntries.turned_text, proofs.LoneRuns.{no_fewer, not_own}, proofs.StepLemmas.enough_itself}
-use Rattle.transaction_scripts.specs.LoneScripts.{IfStays, only}
+use Rattle.transaction_scripts.specs.LoneScripts.{only}
 
 -- the names of stations
 abbrev pub names : World → List (List ℕ)
 names w = map (λ s. s.name) w
 
+-- the first where the test holds, or else the second
+abbrev pub Either : Bool → Type 0 → Type 0 → Type 0
+Either true One Other = One
+Either false One Other = Other
+
 -- a name is among names once at most
 abbrev pub NamedOnce : List ℕ → List (List ℕ) → Type 0
 NamedOnce name [] = Unit {0}
-NamedOnce name (x ∷ xs) = IfStays (bytes_eq name x) (is_among name xs ≡ false) (NamedOnce name xs)
+NamedOnce name (x ∷ xs) = Either (bytes_eq name x) (is_among name xs ≡ false) (NamedOnce name xs)
 
 pub names_after : (w : World) (h : Happens) → names (world_after w h) ≡ names w
 names_after [] h = refl
@@ -44,7 +49,7 @@ none_among x (s ∷ ss) e = by_case (bytes_eq x s.name) (λ f. none_among x ss f
 pub once_more : (name new : List ℕ) (xs : List (List ℕ)) → is_among new xs ≡ false → NamedOnce name xs → NamedOnce name (xs ++ new ∷ [])
 once_more name new [] none once = by_case (bytes_eq name new)
   where
-    by_case : (b : Bool) → IfStays b (is_among name [] ≡ false) (Unit {0})
+    by_case : (b : Bool) → Either b (is_among name [] ≡ false) (Unit {0})
     by_case true = refl
     by_case false = tt
 once_more name new (x ∷ xs) none once =
@@ -56,7 +61,7 @@ once_more name new (x ∷ xs) none once =
     still_none apart same (y ∷ ys) none = let parts = or_parts (bytes_eq name y) (is_among name ys) none in (λ i. parts.0 i || still_none apart same ys parts.1 i)
 
     by_case : (b : Bool) → (b ≡ true → name ≡ x) → bytes_eq new x ≡ false → (NamedOnce name xs → NamedOnce name (xs ++ new ∷ []))
-        → IfStays b (is_among name xs ≡ false) (NamedOnce name xs) → IfStays b (is_among name (xs ++ new ∷ []) ≡ false) (NamedOnce name (xs ++ new ∷ []))
+        → Either b (is_among name xs ≡ false) (NamedOnce name xs) → Either b (is_among name (xs ++ new ∷ []) ≡ false) (NamedOnce name (xs ++ new ∷ []))
     by_case true same apart rest here = still_none apart (same refl) xs here
     by_case false same apart rest here = rest here
 
@@ -161,7 +166,7 @@ module _ (name tx : List ℕ) where
   skip_own n command station none [] once found = cc
   skip_own n command station fails (s ∷ ss) once found = by_case (bytes_eq name s.name) refl once found (skip_own n command station fails ss)
     where
-      by_case : (b : Bool) → bytes_eq name s.name ≡ b → IfStays b (is_among name (names ss) ≡ false) (NamedOnce name (names ss)) → cond b (Some s) (station_named name ss) ≡ Some station
+      by_case : (b : Bool) → bytes_eq name s.name ≡ b → Either b (is_among name (names ss) ≡ false) (NamedOnce name (names ss)) → cond b (Some s) (station_named name ss) ≡ Some station
           → (NamedOnce name (names ss) → station_named name ss ≡ Some station → map (only name tx n) (world_after ss (name, command)) ≡ map (only name tx n) ss)
           → map (only name tx n) (cond b (station_after s command) s ∷ world_after ss (name, command)) ≡ only name tx n s ∷ map (only name tx n) ss
       by_case true own none found later =
@@ -181,7 +186,7 @@ module _ (name tx : List ℕ) where
   own_world n command station one [] once found = cc
   own_world n command station one (s ∷ ss) once found = by_case (bytes_eq name s.name) refl once found (own_world n command station one ss)
     where
-      by_case : (b : Bool) → bytes_eq name s.name ≡ b → IfStays b (is_among name (names ss) ≡ false) (NamedOnce name (names ss)) → cond b (Some s) (station_named name ss) ≡ Some station
+      by_case : (b : Bool) → bytes_eq name s.name ≡ b → Either b (is_among name (names ss) ≡ false) (NamedOnce name (names ss)) → cond b (Some s) (station_named name ss) ≡ Some station
           → (NamedOnce name (names ss) → station_named name ss ≡ Some station
           → map (only name tx (changes_after n (answer station.limits station.content command))) (world_after ss (name, command)) ≡ world_after (map (only name tx n) ss) (name, command))
           → map (only name tx (changes_after n (answer station.limits station.content command))) (cond b (station_after s command) s ∷ world_after ss (name, command))

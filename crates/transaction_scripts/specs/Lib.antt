@@ -1,1 +1,3 @@
 pub mod LoneScripts
+pub mod LoneBytes
+pub mod SiteBoards

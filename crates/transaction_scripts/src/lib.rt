@@ -10,4 +10,4 @@
 
 mod scripts;
 
-pub use scripts::scripts_of_transactions;
+pub use scripts::{boards_of_transactions, bytes_of_transactions, scripts_of_transactions};

@@ -1,19 +1,37 @@
 //! Laws of scripts, and of one transaction of one station in them.
-ghost use Rattle.std.specs.Prelude.{◌≡◌, ℕ, List, Some};
-ghost use Rattle.ledger_model.{specs.declared.order.Order.Order, specs.Periods.Periods, specs.World.Station};
-ghost use Rattle.script_ledgers.specs.Script.{script_after, start, station_named};
-ghost use Rattle.script_lines.specs.Lines.{Line};
-ghost use Rattle.transaction_scripts.specs.LoneScripts.{AreAnsweredAlike, IsAloneAfter, IsSumOfLoneBoards, lone_lines};
+ghost use Rattle.std.{specs.Prelude.{◌≡◌, ℕ, List, Some, true}, specs.List.flat_map};
+ghost use Rattle.board_report.specs.Texts.{board_text};
+ghost use Rattle.ledger_model.{specs.Board.board_by, specs.Content.entries, specs.declared.order.Order.Order, specs.Periods.Periods, specs.World.Station};
+ghost use Rattle.script_ledgers.specs.Script.{is_among, line_step, script_after, script_text, start, station_named};
+ghost use Rattle.script_lines.{specs.LineMeaning.{asks_board, line_meaning}, specs.Lines.{Line, lines_of}};
+ghost use Rattle.transaction_laws.specs.BoardSums.{sum_of_boards};
+ghost use Rattle.transaction_scripts.{specs.LoneBytes.{end_of_script, lone_script}, specs.LoneScripts.{IsAloneAfter, line_texts, lone_boards, lone_count, lone_lines, lone_texts}, specs.SiteBoards.board_together};
 
-/// A transaction is a function of its own lines of a script. The script of just these lines, with the plan,
-/// the moments and the questions for the transaction's lists, answers each message of the transaction and each
-/// such question with the same text, byte for byte, and each operator's command the same but for the count of
-/// changes. It leaves the plan as it is, the station with what the whole script leaves of the transaction, and
-/// all other stations without events. The board of a station is the sum of the boards that these scripts leave,
-/// one for each of its transactions.
+/// A transaction depends on its own lines of a script alone. The script of just these lines, with the plan, the
+/// moments, the questions for the transaction's lists and those for what a text asks for, writes for each line
+/// what the whole script writes for it, byte for byte, except that a count of changes is that of the
+/// transaction's own. It leaves the plan and the moment as they are, the station with what the whole script
+/// leaves of the transaction, and all other stations without events. The board of a station is the sum of the
+/// boards that these scripts leave, one for each of its transactions.
 pub fn scripts_of_transactions()
-    ensures answers { (name tx : List ℕ) (lines : List Line) → AreAnsweredAlike name tx start start lines }
-    ensures left { (name tx : List ℕ) (lines : List Line) → IsAloneAfter name tx (script_after start lines) (script_after start (lone_lines name tx start lines)) }
-    ensures boards { (order : Order) (period : Periods) (name : List ℕ) (lines : List Line) (station : Station)
-        → station_named name (script_after start lines).world ≡ Some station → IsSumOfLoneBoards order period name lines station }
+    ensures texts { (name tx : List ℕ) (lines : List Line) → line_texts start (lone_lines name tx start lines) ≡ lone_texts name tx 0 start lines }
+    ensures left { (name tx : List ℕ) (lines : List Line) → IsAloneAfter name tx (lone_count name tx 0 start lines) (script_after start lines) (script_after start (lone_lines name tx start lines)) }
+    ensures boards { (order : Order) (period : Periods) (lines : List Line) (name : List ℕ) (station : Station)
+        → station_named name (script_after start lines).world ≡ Some station → board_by order period (entries station.content) ≡ sum_of_boards period (lone_boards order period lines station) }
+{}
+
+/// The script of a transaction alone is a part of the whole script's bytes: those of the lines that stay, with
+/// their line feeds. Its lines are these, and its text is theirs.
+pub fn bytes_of_transactions()
+    ensures lines { (max_line_bytes : ℕ) (name tx bytes : List ℕ) → lines_of max_line_bytes (lone_script max_line_bytes name tx bytes) ≡ lone_lines name tx start (lines_of max_line_bytes bytes) }
+    ensures text { (max_line_bytes : ℕ) (name tx bytes : List ℕ)
+        → script_text start (lines_of max_line_bytes (lone_script max_line_bytes name tx bytes)) ≡ flat_map (λ text. text) (lone_texts name tx 0 start (lines_of max_line_bytes bytes)) }
+{}
+
+/// The text of a site's board is put together from what the scripts of its transactions alone show of the site:
+/// each figure and each energy is the sum over all transactions of all its stations, and each transaction's line
+/// is the one that its own script shows.
+pub fn boards_of_transactions()
+    ensures { (max_line_bytes : ℕ) (bytes : List ℕ) (line : Line) (site : List ℕ) → line_meaning line ≡ asks_board site → is_among site (end_of_script max_line_bytes bytes).sites ≡ true
+        → (line_step (end_of_script max_line_bytes bytes) line).1 ≡ board_text (board_together max_line_bytes site bytes) }
 {}

@@ -1,5 +1,5 @@
-use Rattle.transaction_scripts.proofs.LoneSteps.{alone_after, answered, lone_boards}
+use Rattle.transaction_scripts.proofs.LoneSteps.{alone_after, lone_answers, lone_sum}
 use Rattle.transaction_scripts.proofs.scripts.scripts_of_transactions.Goals as goal
 
 pub returns : goal.returns
-returns c = record { answers = answered; left = alone_after; boards = lone_boards }
+returns c = record { texts = lone_answers; left = alone_after; boards = lone_sum }
