@@ -6,6 +6,13 @@ ghost use Rattle.transaction_laws.specs.Alone.{belongs_to};
 use ledger_model::{Command, TxId};
 use std::alloc::{AllocError, Global};
 
+/// Whether a command is on an event of this transaction.
+pub fn belongs(command: &Command, tx: &TxId) -> bool
+    ensures { result ≡ belongs_to tx.now (key_of command.now) }
+{
+    tx == command.key().tx()
+}
+
 /// The commands on events of one transaction, in their order: what a ledger gets that has this transaction
 /// alone.
 pub fn commands_alone<'a>(
@@ -17,7 +24,7 @@ pub fn commands_alone<'a>(
 {
     let mut own = Vec::new(alloc);
     for command in commands {
-        if tx == command.key().tx() {
+        if belongs(command, tx) {
             own.push(command)?;
         }
     }
@@ -40,7 +47,7 @@ mod tests {
         let commands = [voided("t2").ok_or("a key")?, voided("t1").ok_or("a key")?];
         let own = commands_alone(rt.alloc(), &tx, &commands)?;
         assert_eq!(rt; own.len(), 1);
-        assert!(rt; own[0].key().tx() == &tx);
+        assert!(rt; belongs(own[0], &tx));
         Ok(())
     }
 }

@@ -19,7 +19,7 @@ mod steps;
 pub use boards::{
     board_of_a_transaction, boards_are_sums, energies_are_sums, site_boards_are_sums,
 };
-pub use commands::commands_alone;
+pub use commands::{belongs, commands_alone};
 pub use examples::{examples_of_answers, examples_of_boards};
 pub use runs::runs_of_a_transaction;
 pub use stations::transactions_of_stations;
