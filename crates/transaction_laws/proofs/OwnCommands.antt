@@ -1,6 +1,5 @@
 -- The commands of a transaction, one more at a time.
-use Rattle.std.proofs.Common.{◌≡◌, ℕ, ◌+◌, ◌<◌, Bool, true, false, cond, List, [], ◌∷◌, ◌++◌, map, filter, take, get_or, length, sym, ap, ◌∙◌, append-nil}
-use Rattle.std.{proofs.lemmas.List.map-append, proofs.lemmas.List.Elements.filter_more}
+use Rattle.std.{proofs.Common.{◌≡◌, ℕ, ◌+◌, ◌<◌, Bool, true, false, cond, List, [], ◌∷◌, ◌++◌, map, filter, take, get_or, length, sym, ap, ◌∙◌, append-nil}, proofs.lemmas.List.map-append, proofs.lemmas.List.Elements.filter_more}
 use Rattle.ledger_model.{specs.Admissible.key_of, specs.declared.command.Command.Command}
 use Rattle.transaction_laws.specs.Alone.{belongs_to}
 

@@ -2,7 +2,7 @@
 use Rattle.std.{proofs.Common.{◌≡◌, ◌⊎◌, inl, inr, ℕ, ◌+◌, Bool, true, false, cond, List, [], ◌∷◌, ◌++◌, map, refl, sym, ap, subst, ◌∙◌, eqb, arith}, specs.List.flat_map, proofs.lemmas.Bool.{eqb-true, false≢true}, proofs.lemmas.Bool.Decides.eqb_tells, proofs.lemmas.List.Folds.flat_map-map}
 use Rattle.energy_flow.specs.Flow.{Energy}
 use Rattle.ledger_model.{specs.Board.{Board, Flowed, board_by, flows_under, plus_figures, site_board, sum_of_figures}, specs.BoardLaws.{AreRising, IsIn}, specs.ByDirection.{no_flows, plus_flows}, specs.Content.entries, specs.declared.by_direction.ByDirection.ByDirection, specs.declared.figures.Figures.Figures, specs.declared.order.Order.Order, specs.Energy.rising, specs.Figures.no_figures, specs.Periods.Periods, specs.World.{Station, World}, proofs.SumLemmas.{rising-AreRising, rising-IsIn}}
-use Rattle.transaction_laws.{specs.BoardSums.{added_up}, specs.SiteSums.{StationBoards, boards_alone, station_sum, sum_of_stations}, proofs.LoneBoards.{content_board, map_itself, map_same, map_twice, nothing_more}, proofs.LonePairs.{flat_map_twice, map_pieces}, proofs.RisingLists.{above, in_pieces, rising_alike, tail}}
+use Rattle.transaction_laws.{specs.BoardSums.added_up, specs.SiteSums.{StationBoards, boards_alone, station_sum, sum_of_stations}, proofs.LoneBoards.{content_board, map_itself, map_same, map_twice, nothing_more}, proofs.LonePairs.{flat_map_twice, map_pieces}, proofs.RisingLists.{above, in_pieces, rising_alike, tail}}
 
 -- sums of energies
 flows_apart : (a b c : ByDirection Energy) → plus_flows (plus_flows a b) c ≡ plus_flows a (plus_flows b c)

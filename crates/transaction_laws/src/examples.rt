@@ -1,9 +1,7 @@
 //! Worked examples: two transactions of one station, and each alone.
 ghost use Rattle.std.specs.Prelude.{◌≡◌, List, [], ◌∷◌, ◌++◌, codes, filter, map};
 ghost use Rattle.ledger_model.{specs.Admissible.key_of, specs.Board.board, specs.Content.empty_content, specs.Deltas.own_events, specs.Examples.narrow_limits, specs.Laws.answers, specs.Settling.default_periods};
-ghost use Rattle.transaction_laws.{specs.Alone.belongs_to, specs.BoardSums.sum_of_boards};
-ghost use Rattle.transaction_laws.{specs.Examples.{answers_alone, answers_among, answers_with_refused, both_board, crowded, first_board, first_events, second_board, second_events, two_stations}};
-ghost use Rattle.transaction_laws.{specs.SiteSums.sum_of_stations, specs.Transcript.{commands_in, own_transcript}};
+ghost use Rattle.transaction_laws.{specs.Alone.belongs_to, specs.BoardSums.sum_of_boards, specs.Examples.{answers_alone, answers_among, answers_with_refused, both_board, crowded, first_board, first_events, second_board, second_events, two_stations}, specs.SiteSums.sum_of_stations, specs.Transcript.{commands_in, own_transcript}};
 
 /// The answers to a transaction's commands among others and alone, at a station that is soon full. A delivery
 /// that the limit of events refuses, because of another transaction, would be accepted alone: so it is no part

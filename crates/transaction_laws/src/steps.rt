@@ -10,7 +10,8 @@ ghost use Rattle.transaction_laws.specs.Alone.{AreEnough, IsStepAlone, NeedsNoMo
 pub fn steps_of_a_transaction()
     ensures own { (limits lone : Bounds) (c : Content) (tx : List ℕ) (n : ℕ) (command : Command) → AreEnough limits lone → n ≤ c.changes
         → belongs_to tx (key_of command) ≡ true → is_by_limit (answer limits c command) ≡ false → IsStepAlone limits lone c tx n command }
-    ensures others { (limits : Bounds) (c : Content) (tx : List ℕ) (n : ℕ) (command : Command) → belongs_to tx (key_of command) ≡ false → alone tx n (step limits c command).0 ≡ alone tx n c }
+    ensures others { (limits : Bounds) (c : Content) (tx : List ℕ) (n : ℕ) (command : Command) → belongs_to tx (key_of command) ≡ false
+        → alone tx n (step limits c command).0 ≡ alone tx n c }
     ensures refused { (limits : Bounds) (c : Content) (command : Command) → is_by_limit (answer limits c command) ≡ true → (step limits c command).0 ≡ c }
     ensures empty { (tx : List ℕ) → alone tx 0 empty_content ≡ empty_content }
     ensures same { (limits : Bounds) → AreEnough limits limits }

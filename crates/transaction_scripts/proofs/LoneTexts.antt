@@ -1,5 +1,5 @@
 -- The bytes of a script's lines that stay, and their text.
-use Rattle.std.{proofs.Common.{◌≡◌, ◌≢◌, ◌⊎◌, inl, inr, ℕ, Bool, true, false, cond, List, [], ◌∷◌, ◌++◌, refl, sym, ap, ◌∙◌, eqb}, specs.List.flat_map, proofs.lemmas.Bool.{false≢true}, proofs.lemmas.Bool.Decides.eqb_tells, proofs.lemmas.List.Elements.{All-append, All-cons, All-nil}}
+use Rattle.std.{proofs.Common.{◌≡◌, ◌≢◌, ◌⊎◌, inl, inr, ℕ, Bool, true, false, cond, List, [], ◌∷◌, ◌++◌, refl, sym, ap, ◌∙◌, eqb}, specs.List.flat_map, proofs.lemmas.Bool.false≢true, proofs.lemmas.Bool.Decides.eqb_tells, proofs.lemmas.List.Elements.{All-append, All-cons, All-nil}}
 use Rattle.script_ledgers.specs.Script.{Script, line_step, script_text, start}
 use Rattle.script_lines.{specs.LineMeaning.line_meaning, specs.Lines.{HasNoFeed, Line, cut, ended, lines_of, unended, whole}, proofs.Cuts.{cut-ended, cut-open}}
 use Rattle.transaction_scripts.{specs.LoneBytes.{lone_bytes, lone_script, written_lines}, specs.LoneScripts.{line_texts, lone_lines, lone_texts, stays}, proofs.LoneSteps.lone_answers}

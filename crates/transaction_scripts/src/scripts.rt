@@ -15,15 +15,17 @@ ghost use Rattle.transaction_scripts.{specs.LoneBytes.{end_of_script, lone_scrip
 /// boards that these scripts leave, one for each of its transactions.
 pub fn scripts_of_transactions()
     ensures texts { (name tx : List ℕ) (lines : List Line) → line_texts start (lone_lines name tx start lines) ≡ lone_texts name tx 0 start lines }
-    ensures left { (name tx : List ℕ) (lines : List Line) → IsAloneAfter name tx (lone_count name tx 0 start lines) (script_after start lines) (script_after start (lone_lines name tx start lines)) }
-    ensures boards { (order : Order) (period : Periods) (lines : List Line) (name : List ℕ) (station : Station)
-        → station_named name (script_after start lines).world ≡ Some station → board_by order period (entries station.content) ≡ sum_of_boards period (lone_boards order period lines station) }
+    ensures left { (name tx : List ℕ) (lines : List Line)
+        → IsAloneAfter name tx (lone_count name tx 0 start lines) (script_after start lines) (script_after start (lone_lines name tx start lines)) }
+    ensures boards { (order : Order) (period : Periods) (lines : List Line) (name : List ℕ) (station : Station) → station_named name (script_after start lines).world ≡ Some station
+        → board_by order period (entries station.content) ≡ sum_of_boards period (lone_boards order period lines station) }
 {}
 
 /// The script of a transaction alone is a part of the whole script's bytes: those of the lines that stay, with
 /// their line feeds. Its lines are these, and its text is theirs.
 pub fn bytes_of_transactions()
-    ensures lines { (max_line_bytes : ℕ) (name tx bytes : List ℕ) → lines_of max_line_bytes (lone_script max_line_bytes name tx bytes) ≡ lone_lines name tx start (lines_of max_line_bytes bytes) }
+    ensures lines { (max_line_bytes : ℕ) (name tx bytes : List ℕ)
+        → lines_of max_line_bytes (lone_script max_line_bytes name tx bytes) ≡ lone_lines name tx start (lines_of max_line_bytes bytes) }
     ensures text { (max_line_bytes : ℕ) (name tx bytes : List ℕ)
         → script_text start (lines_of max_line_bytes (lone_script max_line_bytes name tx bytes)) ≡ flat_map (λ text. text) (lone_texts name tx 0 start (lines_of max_line_bytes bytes)) }
 {}
@@ -32,6 +34,7 @@ pub fn bytes_of_transactions()
 /// each figure and each energy is the sum over all transactions of all its stations, and each transaction's line
 /// is the one that its own script shows.
 pub fn boards_of_transactions()
-    ensures { (max_line_bytes : ℕ) (bytes : List ℕ) (line : Line) (site : List ℕ) → line_meaning line ≡ asks_board site → is_among site (end_of_script max_line_bytes bytes).sites ≡ true
+    ensures { (max_line_bytes : ℕ) (bytes : List ℕ) (line : Line) (site : List ℕ) → line_meaning line ≡ asks_board site
+        → is_among site (end_of_script max_line_bytes bytes).sites ≡ true
         → (line_step (end_of_script max_line_bytes bytes) line).1 ≡ board_text (board_together max_line_bytes site bytes) }
 {}

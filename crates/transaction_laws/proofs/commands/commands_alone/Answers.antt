@@ -1,7 +1,6 @@
 use Rattle.std.proofs.Common.{refl, sym, ap, ◌∙◌}
-use Rattle.transaction_laws.proofs.OwnCommands.{other_more, own_more}
+use Rattle.transaction_laws.{proofs.OwnCommands.{other_more, own_more}, proofs.commands.commands_alone.Goals.{then-belongs+in_ok-push, else-belongs}}
 use Rattle.transaction_laws.proofs.commands.commands_alone.Goals as goal
-use Rattle.transaction_laws.proofs.commands.commands_alone.Goals.{then-belongs+in_ok-push, else-belongs}
 
 pub loop-command-preserved : goal.loop-command-preserved
 loop-command-preserved c =
