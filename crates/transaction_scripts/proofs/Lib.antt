@@ -1,4 +1,5 @@
 pub mod LoneWorlds
 pub mod LoneSteps
 pub mod LoneTexts
+pub mod AnyPlans
 pub mod SiteTexts

@@ -19,14 +19,14 @@ false_only true h = refl
 false_only false h = absurd (false≢true (sym h))
 
 -- the reply to an event has no count
-no_count : (id : List ℕ) (token : Bool) (n : ℕ) (a : Answer) → event_reply_bytes id token (counted_after n a) ≡ event_reply_bytes id token a
+pub no_count : (id : List ℕ) (token : Bool) (n : ℕ) (a : Answer) → event_reply_bytes id token (counted_after n a) ≡ event_reply_bytes id token a
 no_count id token n (Accepted m) = refl
 no_count id token n Repeat = refl
 no_count id token n (Refused why) = refl
 
 module _ (name tx : List ℕ) where
   -- the lists of a transaction alone
-  listing_own : (order : Order) (period : Periods) (es : List Entry) → listing_by order period tx (own_events tx es) ≡ listing_by order period tx es
+  pub listing_own : (order : Order) (period : Periods) (es : List Entry) → listing_by order period tx (own_events tx es) ≡ listing_by order period tx es
   listing_own order period es =
       let live = live_of_own tx es in
       let energy = λ (l : List Entry). in_each (λ d. energy_over (followed (in_order order (λ (r : MeterReading). r.moment) (flat_map (λ (e : Entry). toward d e.1.event.readings) l)))) in
@@ -98,7 +98,7 @@ module _ (name tx : List ℕ) where
   same_left (Ready reply) station s = refl
   same_left Silence station s = refl
 
-  same_after : (found : Option Station) (s : Script) (text : List ℕ) → (delivered_to found s text).0 ≡ (sent_to found s text).0
+  pub same_after : (found : Option Station) (s : Script) (text : List ℕ) → (delivered_to found s text).0 ≡ (sent_to found s text).0
   same_after None s text = refl
   same_after (Some station) s text = same_left (message text s.moment) station s
 

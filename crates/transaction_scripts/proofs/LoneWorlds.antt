@@ -65,12 +65,12 @@ once_more name new (x ∷ xs) none once =
     by_case true same apart rest here = still_none apart (same refl) xs here
     by_case false same apart rest here = rest here
 
-abbrev after_one : Happens → Option Station → Option Station
+abbrev pub after_one : Happens → Option Station → Option Station
 after_one h None = None
 after_one h (Some s) = Some (cond (bytes_eq h.0 s.name) (station_after s h.1) s)
 
 -- the station of a name after a command
-named_after : (x : List ℕ) (w : World) (h : Happens) → station_named x (world_after w h) ≡ after_one h (station_named x w)
+pub named_after : (x : List ℕ) (w : World) (h : Happens) → station_named x (world_after w h) ≡ after_one h (station_named x w)
 named_after x [] h = refl
 named_after x (s ∷ ss) h = by_case (bytes_eq h.0 s.name) refl (bytes_eq x s.name) refl (named_after x ss h)
   where
@@ -86,7 +86,7 @@ module _ (name tx : List ℕ) where
   abbrev pub AreFew : ℕ → World → Type 0
   AreFew n w = (st : Station) → station_named name w ≡ Some st → n ≤ st.content.changes
 
-  grown : (s : Station) (command : Command) → s.content.changes ≤ (station_after s command).content.changes
+  pub grown : (s : Station) (command : Command) → s.content.changes ≤ (station_after s command).content.changes
   grown s command = no_fewer s.content command (answer s.limits s.content command) (λ accepted. (is_counted s.limits s.content command accepted).next)
 
   pub few_after : (n : ℕ) (w : World) (h : Happens) → AreFew n w → AreFew n (world_after w h)

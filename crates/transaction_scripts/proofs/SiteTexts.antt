@@ -1,11 +1,11 @@
 -- The board of a site from what the scripts of its transactions alone show.
 use Rattle.std.{proofs.Common.{◌≡◌, ℕ, Bool, true, false, cond, List, [], ◌∷◌, Some, All, map, refl, sym, ap, subst, ◌∙◌, bytes_eq}, proofs.lemmas.Bool.or_parts, proofs.lemmas.List.Elements.{All-cons, All-head, All-nil, All-tail}}
 use Rattle.board_report.{specs.Named.NamedBoard, specs.Texts.board_text}
-use Rattle.ledger_model.{specs.Board.{Board, SiteBoard, board_by}, specs.Content.entries, specs.declared.order.Order.Order, specs.Periods.Periods, specs.World.{Station, World}, proofs.SumsByTransaction.same_text}
+use Rattle.ledger_model.{specs.Board.{Board, SiteBoard, board_by}, specs.Content.entries, specs.declared.order.Order.Order, specs.Periods.Periods, specs.World.{Station, World}, proofs.SumsByTransaction.{one_text, same_text}}
 use Rattle.script_ledgers.specs.Script.{Script, board_of_site, is_among, line_step, order_named, period_named, script_after, shown_station, start, station_named, stations_of, step_by}
 use Rattle.script_lines.{specs.LineMeaning.{asks_board, line_meaning}, specs.Lines.{Line, lines_of}, specs.Texts.fault_line, specs.declared.script_line.LineFault.TheVariants.UnknownSite}
-use Rattle.transaction_laws.{specs.BoardSums.{board_alone, transactions}, specs.SiteSums.{boards_alone, sum_of_stations}, proofs.LoneBoards.map_same, proofs.LoneEntries.turned_text, proofs.SiteBoards.site_of_transactions}
-use Rattle.transaction_scripts.{specs.LoneBytes.{end_of_script, lone_script}, specs.LoneScripts.{lone_count, only}, specs.SiteBoards.{board_together, boards_shown, shown_on_site, station_shown}, proofs.LoneSteps.{all_lines, once_after}, proofs.LoneTexts.same_lines, proofs.LoneWorlds.{Either, NamedOnce, named_only, names, only_own, only_some}}
+use Rattle.transaction_laws.{specs.Alone.alone, specs.BoardSums.{board_alone, transactions}, specs.SiteSums.{boards_alone, sum_of_stations}, proofs.LoneBoards.map_same, proofs.LoneEntries.turned_text, proofs.SiteBoards.site_of_transactions}
+use Rattle.transaction_scripts.{specs.AnyPlan.HasAlone, specs.LoneBytes.end_of_script, specs.LoneScripts.{lone_count, lone_lines}, specs.SiteBoards.{EachHasAlone, ScriptEach, board_together, boards_shown, lone_scripts, shown_on_site, station_shown}, proofs.LoneSteps.{all_lines, once_after}, proofs.LoneTexts.same_lines, proofs.LoneWorlds.{Either, NamedOnce, name_found, named_only, names, only_own, only_some}}
 
 -- a name that none has is among them once at most
 none_once : (x : List ℕ) (ys : List (List ℕ)) → is_among x ys ≡ false → NamedOnce x ys
@@ -64,56 +64,87 @@ shown_under order period site name d (s ∷ ss) station found of_site = by_name 
         by_site true = ap (λ b. cond b (board_by order period (entries s.content)) (station_shown d name (map (shown_station order period) (stations_of site ss)))) other ∙ later is
         by_site false = later is
 
-module _ (max_line_bytes : ℕ) (site bytes : List ℕ) where
-  abbrev whole : Script
-  whole = end_of_script max_line_bytes bytes
+-- what a script shows of a station of which it has one transaction
+pub shown_alone : (name tx : List ℕ) (n : ℕ) (s lone : Script) (h : HasAlone name tx n s lone)
+    → shown_on_site h.station.site name lone ≡ board_by (order_named s h.station.site) (period_named s h.station.site) (entries (alone tx 0 h.station.content))
+shown_alone name tx n s lone h =
+    let site = h.station.site in
+    let order = order_named lone site in
+    let period = period_named lone site in
+    shown_under order period site name (board_by order period []) lone.world (record h.station { content = alone tx n h.station.content }) h.lone_station (same_text site)
+    ∙ (λ i. board_by (h.order i) (h.period i) (entries (alone tx 0 h.station.content)))
 
+module _ (each : ScriptEach) (site : List ℕ) (s : Script) (has : EachHasAlone each site s) where
   abbrev order : Order
-  order = order_named whole site
+  order = order_named s site
 
   abbrev period : Periods
-  period = period_named whole site
+  period = period_named s site
 
-  -- what the script of a transaction alone shows of its station
-  shown_alone : (station : Station) (tx : List ℕ) → IsFound whole.world station → bytes_eq site station.site ≡ true
-      → shown_on_site site station.name (end_of_script max_line_bytes (lone_script max_line_bytes station.name tx bytes)) ≡ board_alone order period station.content tx
-  shown_alone station tx found of_site =
-      let name = station.name in
-      let follows = (all_lines name tx (lines_of max_line_bytes bytes)).1 in
-      let n = lone_count name tx 0 start (lines_of max_line_bytes bytes) in
-      let lone : World = map (only name tx n) whole.world in
-      let there : station_named name lone ≡ Some (only name tx n station) = named_only name tx n name whole.world ∙ ap (only_some name tx n) found in
-      ap (λ ls. shown_on_site site name (script_after start ls)) (same_lines max_line_bytes name tx bytes)
-      ∙ ap (shown_on_site site name) follows.is
-      ∙ shown_under order period site name (board_by order period []) lone (only name tx n station) there of_site
-      ∙ ap (λ (t : Station). board_by order period (entries t.content)) (only_own name tx n station (same_text name))
+  shown_each : (station : Station) (tx : List ℕ) → IsFound s.world station → bytes_eq site station.site ≡ true → shown_on_site site station.name (each station tx) ≡ board_alone order period station.content tx
+  shown_each station tx found of_site =
+      let h = (has station tx found of_site).1 in
+      let is : Some h.station ≡ Some station = sym h.whole_station ∙ found in
+      let here : h.station ≡ station = cc is in
+      let there : h.station.site ≡ site = ap (λ (t : Station). t.site) here ∙ sym (one_text site station.site of_site) in
+      ap (λ x. shown_on_site x station.name (each station tx)) (sym there)
+      ∙ shown_alone station.name tx (has station tx found of_site).0 s (each station tx) h
+      ∙ (λ i. board_by (order_named s (there i)) (period_named s (there i)) (entries (alone tx 0 (here i).content)))
 
-  boards_alike : (station : Station) → IsFound whole.world station → bytes_eq site station.site ≡ true → boards_alone order period station ≡ boards_shown max_line_bytes site bytes station
-  boards_alike station found of_site = ap (λ bs. (station.name, bs)) (map_same _ _ (λ tx. sym (shown_alone station tx found of_site)) (transactions station.content))
+  boards_alike : (station : Station) → IsFound s.world station → bytes_eq site station.site ≡ true → boards_alone order period station ≡ boards_shown each site station
+  boards_alike station found of_site = ap (λ bs. (station.name, bs)) (map_same _ _ (λ tx. sym (shown_each station tx found of_site)) (transactions station.content))
 
-  all_alike : (w : World) → All (IsFound whole.world) w → map (boards_alone order period) (stations_of site w) ≡ map (boards_shown max_line_bytes site bytes) (stations_of site w)
+  all_alike : (w : World) → All (IsFound s.world) w → map (boards_alone order period) (stations_of site w) ≡ map (boards_shown each site) (stations_of site w)
   all_alike [] all = refl
-  all_alike (s ∷ ss) all = by_case (bytes_eq site s.site) (boards_alike s (All-head (IsFound whole.world) s ss all)) (all_alike ss (All-tail (IsFound whole.world) s ss all))
+  all_alike (r ∷ ss) all = by_case (bytes_eq site r.site) (boards_alike r (All-head (IsFound s.world) r ss all)) (all_alike ss (All-tail (IsFound s.world) r ss all))
     where
-      by_case : (b : Bool) → (b ≡ true → boards_alone order period s ≡ boards_shown max_line_bytes site bytes s)
-          → map (boards_alone order period) (stations_of site ss) ≡ map (boards_shown max_line_bytes site bytes) (stations_of site ss)
-          → map (boards_alone order period) (cond b (s ∷ stations_of site ss) (stations_of site ss)) ≡ map (boards_shown max_line_bytes site bytes) (cond b (s ∷ stations_of site ss) (stations_of site ss))
+      by_case : (b : Bool) → (b ≡ true → boards_alone order period r ≡ boards_shown each site r) → map (boards_alone order period) (stations_of site ss) ≡ map (boards_shown each site) (stations_of site ss)
+          → map (boards_alone order period) (cond b (r ∷ stations_of site ss) (stations_of site ss)) ≡ map (boards_shown each site) (cond b (r ∷ stations_of site ss) (stations_of site ss))
       by_case true same rest = λ i. same refl i ∷ rest i
       by_case false same rest = rest
 
   named : SiteBoard → NamedBoard
   named b = record { name = site; period = b.period; order = order; figures = b.figures; quarters = b.quarters; stations = b.stations }
 
-  together : board_of_site whole site ≡ board_together max_line_bytes site bytes
+  together : ((x : List ℕ) → NamedOnce x (names s.world)) → board_of_site s site ≡ board_together each site s
   unfolding named
-  together =
-      ap named (site_of_transactions order period (stations_of site whole.world)
-      ∙ ap (sum_of_stations period) (all_alike whole.world (all_found whole.world (λ x. once_after x [] (lines_of max_line_bytes bytes)))))
+  together once =
+      ap named (site_of_transactions order period (stations_of site s.world)
+      ∙ ap (sum_of_stations period) (all_alike s.world (all_found s.world once)))
 
-  pub board_text_together : (line : Line) → line_meaning line ≡ asks_board site → is_among site (end_of_script max_line_bytes bytes).sites ≡ true
-      → (line_step (end_of_script max_line_bytes bytes) line).1 ≡ board_text (board_together max_line_bytes site bytes)
-  board_text_together line asks there =
-      let s = end_of_script max_line_bytes bytes in
-      ap (λ m. (step_by s m).1) asks
-      ∙ ap (λ b. cond b (board_text (board_of_site s site)) (fault_line UnknownSite)) there
-      ∙ ap board_text together
+-- any scripts that have a transaction each
+pub text_of_any : (each : ScriptEach) (lines : List Line) (line : Line) (site : List ℕ) → line_meaning line ≡ asks_board site → is_among site (script_after start lines).sites ≡ true
+    → EachHasAlone each site (script_after start lines) → (line_step (script_after start lines) line).1 ≡ board_text (board_together each site (script_after start lines))
+text_of_any each lines line site asks there has =
+    let s = script_after start lines in
+    ap (λ m. (step_by s m).1) asks
+    ∙ ap (λ b. cond b (board_text (board_of_site s site)) (fault_line UnknownSite)) there
+    ∙ ap board_text (together each site s has (λ x. once_after x [] lines))
+
+-- the script of a transaction's lines has it alone
+pub has_alone : (name tx : List ℕ) (lines : List Line) (station : Station) → station_named name (script_after start lines).world ≡ Some station
+    → HasAlone name tx (lone_count name tx 0 start lines) (script_after start lines) (script_after start (lone_lines name tx start lines))
+has_alone name tx lines station found =
+    let s = script_after start lines in
+    let f = (all_lines name tx lines).1 in
+    let n = lone_count name tx 0 start lines in
+    let own : bytes_eq name station.name ≡ true = subst (λ x. bytes_eq name x ≡ true) (name_found name s.world station found) (same_text name) in
+    record {
+      station = station;
+      whole_station = found;
+      lone_station = ap (λ (l : Script). station_named name l.world) f.is ∙ named_only name tx n name s.world ∙ ap (only_some name tx n) found ∙ ap Some (only_own name tx n station own);
+      changes = f.few station found;
+      order = ap (λ (l : Script). order_named l station.site) f.is;
+      period = ap (λ (l : Script). period_named l station.site) f.is;
+      moment = ap (λ (l : Script). l.moment) f.is;
+    }
+
+pub text_together : (max_line_bytes : ℕ) (bytes : List ℕ) (line : Line) (site : List ℕ) → line_meaning line ≡ asks_board site → is_among site (end_of_script max_line_bytes bytes).sites ≡ true
+    → (line_step (end_of_script max_line_bytes bytes) line).1 ≡ board_text (board_together (lone_scripts max_line_bytes bytes) site (end_of_script max_line_bytes bytes))
+text_together max_line_bytes bytes line site asks there =
+    let lines = lines_of max_line_bytes bytes in
+    text_of_any (lone_scripts max_line_bytes bytes) lines line site asks there (λ station tx found of_site.
+    let name = station.name in (
+      lone_count name tx 0 start lines,
+      subst (λ ls. HasAlone name tx (lone_count name tx 0 start lines) (script_after start lines) (script_after start ls)) (sym (same_lines max_line_bytes name tx bytes)) (has_alone name tx lines station found),
+    ))

@@ -1,11 +1,11 @@
 //! Laws of scripts, and of one transaction of one station in them.
-ghost use Rattle.std.{specs.Prelude.{◌≡◌, ℕ, List, Some, true}, specs.List.flat_map};
+ghost use Rattle.std.{specs.Prelude.{◌≡◌, ℕ, List, All, Some, true}, specs.List.flat_map};
 ghost use Rattle.board_report.specs.Texts.{board_text};
 ghost use Rattle.ledger_model.{specs.Board.board_by, specs.Content.entries, specs.declared.order.Order.Order, specs.Periods.Periods, specs.World.Station};
-ghost use Rattle.script_ledgers.specs.Script.{is_among, line_step, script_after, script_text, start, station_named};
+ghost use Rattle.script_ledgers.specs.Script.{Script, is_among, line_step, script_after, script_text, start, station_named};
 ghost use Rattle.script_lines.{specs.LineMeaning.{asks_board, line_meaning}, specs.Lines.{Line, lines_of}};
 ghost use Rattle.transaction_laws.specs.BoardSums.{sum_of_boards};
-ghost use Rattle.transaction_scripts.{specs.LoneBytes.{end_of_script, lone_script}, specs.LoneScripts.{IsAloneAfter, line_texts, lone_boards, lone_count, lone_lines, lone_texts}, specs.SiteBoards.board_together};
+ghost use Rattle.transaction_scripts.{specs.AnyPlan.{DeclareAlike, DeclaresNothing, HasAlone}, specs.LoneBytes.{end_of_script, lone_script}, specs.LoneScripts.{IsAloneAfter, line_texts, lone_boards, lone_count, lone_lines, lone_texts}, specs.SiteBoards.{EachHasAlone, ScriptEach, board_together, lone_scripts}};
 
 /// A transaction depends on its own lines of a script alone. The script of just these lines, with the plan, the
 /// moments, the questions for the transaction's lists and those for what a text asks for, writes for each line
@@ -30,11 +30,26 @@ pub fn bytes_of_transactions()
         → script_text start (lines_of max_line_bytes (lone_script max_line_bytes name tx bytes)) ≡ flat_map (λ text. text) (lone_texts name tx 0 start (lines_of max_line_bytes bytes)) }
 {}
 
+/// The transaction's lines may as well follow another plan, if that declares the station and its site alike: other
+/// stations and sites change nothing. From two such plans on the lines get the same texts, and leave the station
+/// with just the transaction.
+pub fn plans_of_transactions()
+    ensures begins { (name tx : List ℕ) (s other : Script) → DeclareAlike name s other → HasAlone name tx 0 s other }
+    ensures texts { (name tx : List ℕ) (n : ℕ) (s lone : Script) (lines : List Line) → All (λ line. DeclaresNothing (line_meaning line)) lines
+        → HasAlone name tx n s lone → line_texts lone (lone_lines name tx s lines) ≡ lone_texts name tx n s lines }
+    ensures left { (name tx : List ℕ) (n : ℕ) (s lone : Script) (lines : List Line) → All (λ line. DeclaresNothing (line_meaning line)) lines
+        → HasAlone name tx n s lone → HasAlone name tx (lone_count name tx n s lines) (script_after s lines) (script_after lone (lone_lines name tx s lines)) }
+    ensures script { (name tx : List ℕ) (lines : List Line) (station : Station) → station_named name (script_after start lines).world ≡ Some station
+        → HasAlone name tx (lone_count name tx 0 start lines) (script_after start lines) (script_after start (lone_lines name tx start lines)) }
+{}
+
 /// The text of a site's board is put together from what the scripts of its transactions alone show of the site:
 /// each figure and each energy is the sum over all transactions of all its stations, and each transaction's line
-/// is the one that its own script shows.
+/// is the one that its own script shows. So it is with any scripts that have one transaction each.
 pub fn boards_of_transactions()
-    ensures { (max_line_bytes : ℕ) (bytes : List ℕ) (line : Line) (site : List ℕ) → line_meaning line ≡ asks_board site
+    ensures alone { (max_line_bytes : ℕ) (bytes : List ℕ) (line : Line) (site : List ℕ) → line_meaning line ≡ asks_board site
         → is_among site (end_of_script max_line_bytes bytes).sites ≡ true
-        → (line_step (end_of_script max_line_bytes bytes) line).1 ≡ board_text (board_together max_line_bytes site bytes) }
+        → (line_step (end_of_script max_line_bytes bytes) line).1 ≡ board_text (board_together (lone_scripts max_line_bytes bytes) site (end_of_script max_line_bytes bytes)) }
+    ensures any { (each : ScriptEach) (lines : List Line) (line : Line) (site : List ℕ) → line_meaning line ≡ asks_board site → is_among site (script_after start lines).sites ≡ true
+        → EachHasAlone each site (script_after start lines) → (line_step (script_after start lines) line).1 ≡ board_text (board_together each site (script_after start lines)) }
 {}
