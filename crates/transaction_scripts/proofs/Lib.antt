@@ -3,3 +3,4 @@ pub mod LoneSteps
 pub mod LoneTexts
 pub mod AnyPlans
 pub mod SiteTexts
+pub mod AllStay

@@ -5,20 +5,22 @@ ghost use Rattle.ledger_model.{specs.Board.board_by, specs.Content.entries, spec
 ghost use Rattle.script_ledgers.specs.Script.{Script, is_among, line_step, script_after, script_text, start, station_named};
 ghost use Rattle.script_lines.{specs.LineMeaning.{asks_board, line_meaning}, specs.Lines.{Line, lines_of}};
 ghost use Rattle.transaction_laws.specs.BoardSums.{sum_of_boards};
-ghost use Rattle.transaction_scripts.{specs.AnyPlan.{DeclareAlike, DeclaresNothing, HasAlone}, specs.LoneBytes.{end_of_script, lone_script}, specs.LoneScripts.{IsAloneAfter, line_texts, lone_boards, lone_count, lone_lines, lone_texts}, specs.SiteBoards.{EachHasAlone, ScriptEach, board_together, lone_scripts}};
+ghost use Rattle.transaction_scripts.{specs.AnyPlan.{DeclareAlike, DeclaresNothing, HasAlone}, specs.LoneBytes.{end_of_script, lone_script}, specs.LoneScripts.{IsAloneAfter, NoneRefused, line_texts, lines_about, lone_boards, lone_count, lone_lines, lone_texts}, specs.SiteBoards.{EachHasAlone, ScriptEach, board_together, lone_scripts}};
 
 /// A transaction depends on its own lines of a script alone. The script of just these lines, with the plan, the
 /// moments, the questions for the transaction's lists and those for what a text asks for, writes for each line
 /// what the whole script writes for it, byte for byte, except that a count of changes is that of the
 /// transaction's own. It leaves the plan and the moment as they are, the station with what the whole script
 /// leaves of the transaction, and all other stations without events. The board of a station is the sum of the
-/// boards that these scripts leave, one for each of its transactions.
+/// boards that these scripts leave, one for each of its transactions. Where no limit refuses a line, all lines
+/// about the transaction are its own.
 pub fn scripts_of_transactions()
     ensures texts { (name tx : List ℕ) (lines : List Line) → line_texts start (lone_lines name tx start lines) ≡ lone_texts name tx 0 start lines }
     ensures left { (name tx : List ℕ) (lines : List Line)
         → IsAloneAfter name tx (lone_count name tx 0 start lines) (script_after start lines) (script_after start (lone_lines name tx start lines)) }
     ensures boards { (order : Order) (period : Periods) (lines : List Line) (name : List ℕ) (station : Station) → station_named name (script_after start lines).world ≡ Some station
         → board_by order period (entries station.content) ≡ sum_of_boards period (lone_boards order period lines station) }
+    ensures all { (name tx : List ℕ) (lines : List Line) → NoneRefused start lines → lone_lines name tx start lines ≡ lines_about name tx start lines }
 {}
 
 /// The script of a transaction alone is a part of the whole script's bytes: those of the lines that stay, with
