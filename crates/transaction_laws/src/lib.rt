@@ -5,8 +5,13 @@
 //! room that the station's limits give. A board is the sum of the boards that its transactions have alone, and
 //! so is the board of a site.
 //!
-//! The crate's contract: each function has no parameters and does nothing. What it ensures holds for all
-//! contents, all runs and all boards. No crate needs these functions to run.
+//! The crate's contract: [`commands_alone`] takes the commands of one transaction out of a station's, by
+//! [`belongs`]. Each other function has no parameters and does nothing: what it ensures holds for all contents,
+//! all runs and all boards.
+//!
+//! ```text
+//! commands_alone(alloc, &tx, &commands)?   // of a void of T2 and one of T1, with tx T1: the second
+//! ```
 #![tactic(auto)]
 
 mod boards;
