@@ -1,0 +1,11 @@
+pub mod AloneEvents
+pub mod LoneEntries
+pub mod StepLemmas
+pub mod LoneRuns
+pub mod LoneStations
+pub mod RisingLists
+pub mod LonePairs
+pub mod LoneFigures
+pub mod LoneBoards
+pub mod SiteBoards
+pub mod OwnCommands

@@ -1,0 +1,4 @@
+pub mod LoneScripts
+pub mod LoneBytes
+pub mod AnyPlan
+pub mod SiteBoards
