@@ -10,6 +10,7 @@ ghost use Rattle.station_link.specs.Attended.{IsAnswered};
 use crate::serve::Journalling;
 use crate::serving::Serving;
 use board_report::write_boards;
+use energy_flow::Work;
 use kept_desk::{JournalTable, KeptDesk, Moment, Opening};
 use live_server::{Ran, Run, serve_plan_at};
 use running_desk::{Host, Input, Output, ServiceFault};
@@ -19,6 +20,7 @@ use std::alloc::{AllocError, Global};
 use std::io::BufWriter;
 use std::marker::Brand;
 use std::net::TcpListener;
+use std::thread::Threads;
 
 /// The result of a server with a journal.
 #[derive(Drop)]
@@ -168,7 +170,7 @@ fn run_over<
         listener,
     };
     let ran = serve_plan_at(run, &serving, passes, viewers, input, console, lines)?;
-    end_run(alloc, plan, serving.kept, ran)
+    end_run(rt, alloc, plan, serving.kept, ran)
 }
 
 // The desk of a plan over cells that took commands before, with a journal that has no lines yet, and its viewers.
@@ -225,7 +227,8 @@ fn with_more<M: Drop>(mut seen: Vec<M>, mut more: Vec<M>) -> Result<Vec<M>, Allo
 
 // Closes a desk with a journal after its sessions have ended, and makes the board of each site, in the plan's
 // order.
-fn end_run<J: Naming + Send + Sync, K: Opening + Send + Sync, W: Output, T: Output>(
+fn end_run<J: Naming + Send + Sync, K: Opening + Send + Sync, W: Output, T: Output, R: Threads>(
+    rt: &R,
     alloc: Global,
     plan: &Plan,
     kept: KeptDesk<J, K, W>,
@@ -249,7 +252,8 @@ fn end_run<J: Naming + Send + Sync, K: Opening + Send + Sync, W: Output, T: Outp
         Ok(closed) => closed,
         Err(refused) => return Err(ServiceFault::from(refused.fault)),
     };
-    if let Err(_fault) = write_boards(alloc, plan, &closed.closed, &mut boards) {
+    let mut work = Work::open(rt);
+    if let Err(_fault) = write_boards(alloc, plan, &closed.closed, &mut boards, &mut work) {
         return Err(ServiceFault::OutOfMemory);
     }
     let (journal, unwritten) = closed.writer.into_parts();

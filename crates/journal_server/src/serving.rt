@@ -7,6 +7,7 @@ ghost use Rattle.site_desk.{specs.declared.roster.StationPlace.StationPlace, spe
 ghost use Rattle.station_link.specs.Answer.{Asks, IsSubmitted};
 
 use arrayvec::ArrayString;
+use energy_flow::Work;
 use journal_script::{MessageLine, RECEIPT_BYTES, is_script_line, laws, receipt_note};
 use kept_desk::{KeptCell, KeptDesk, Line, Moment, Opening};
 use ledger_model::{Answer, Command, Name, Refusal};
@@ -126,8 +127,9 @@ impl<J: Naming + Send + Sync, K: Opening + Send + Sync, W: Write + Drop> Serves
         rt: &R,
         alloc: Global,
         site: u16,
+        work: &mut Work,
     ) -> Result<Seen<Moment<K>>, BoardFault> {
-        self.kept.site_boards(rt, alloc, site)
+        self.kept.site_boards(rt, alloc, site, work)
     }
 }
 

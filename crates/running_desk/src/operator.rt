@@ -13,7 +13,7 @@ use crate::orders::{Came, Orders};
 use crate::running::{Running, site_of};
 use crate::serves::Serves;
 use board_report::{BoardsFault, energy_text, export_text, total_text, write_out};
-use energy_flow::Flow;
+use energy_flow::{Flow, Work};
 use gathered_input::Readiness;
 use ledger_model::{Command, Figures, Name, TxId};
 use script_ledgers::{Detail, put_asked, put_listed, put_mark, put_message_text};
@@ -259,7 +259,10 @@ impl<S: Serves, R: Threads + Wait + Clock> Running<'_, S, R> {
         ensures { OnOk result (IsList self.now.desk.now.stations what name.now tx.now reply.new.items) }
     {
         match self.desk.station_listing(self.rt, self.alloc, name, tx) {
-            Ok(listing) => put_listed(self.alloc, reply, what, name, tx, &listing),
+            Ok(listing) => {
+                let mut work = Work::open(self.rt);
+                put_listed(self.alloc, reply, what, name, tx, &listing, &mut work)
+            }
             Err(BoardFault::UnknownStation) => put_fault(reply, LineFault::UnknownStation),
             Err(BoardFault::Torn) => put_line(reply, TORN),
             Err(BoardFault::OutOfMemory) => Err(AllocError),

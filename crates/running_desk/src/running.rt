@@ -8,6 +8,7 @@ ghost use Rattle.station_link.{specs.Session.MayLackPass, specs.declared.ending.
 use crate::pass_pool::PassPool;
 use crate::serves::Serves;
 use board_report::running_text;
+use energy_flow::Work;
 use ledger_model::Name;
 use site_desk::{BoardFault, Desk, EnlistFault, Pass, Plan};
 use station_link::Why;
@@ -130,7 +131,8 @@ impl<S: Serves, R: Threads + Wait> Running<'_, S, R> {
         requires { site < length self.now.plan.now.sites.items }
         ensures { IfOk result (λ r. IsShownBoard (S.shows self.now.serves.now) self.now.plan.now.sites.items self.now.desk.now.stations site r.0.items (Some r.1)) }
     {
-        let (boards, totals, seen) = self.serves.boards(self.rt, self.alloc, site)?;
+        let mut work = Work::open(self.rt);
+        let (boards, totals, seen) = self.serves.boards(self.rt, self.alloc, site, &mut work)?;
         match running_text(self.alloc, self.plan, site, boards, totals) {
             Ok(text) => Ok((text, seen)),
             Err(_) => Err(BoardFault::OutOfMemory),

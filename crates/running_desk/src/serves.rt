@@ -1,6 +1,7 @@
 //! The desk that a live server serves.
 ghost use Rattle.std.specs.Prelude.{◌≡◌, Some, slice_get};
 
+use energy_flow::Work;
 use ledger_model::{Answer, Command, Figures, Name};
 use site_book::Told;
 use site_desk::{BoardFault, Desk, HasCell, Pass};
@@ -29,7 +30,8 @@ pub trait Serves: Delivers + MayBreak {
     ghost use Rattle.std.specs.Prelude.{◌≡◌, ℕ, List, Some, IfOk, map, slice_get};
     ghost use Rattle.ledger_model.specs.Board.{Board, sum_of_figures};
     ghost use Rattle.script_lines.{specs.LineMeaning.{commands, line_meaning}, specs.Lines.line_bytes};
-    ghost use Rattle.site_desk.{specs.declared.roster.StationPlace.StationPlace, specs.Roster.{IsNamed, Roster}, specs.Operator.AreBoardsAt, specs.Submit.Submitted};
+    ghost use Rattle.site_desk.{specs.declared.roster.StationPlace.StationPlace, specs.Roster.{IsNamed, Roster}, specs.Operator.{AreBoardsAt, site_looks}, specs.Submit.Submitted};
+    ghost use Rattle.station_ledger.specs.Quarters.{IsWork};
     ghost use Rattle.station_link.specs.Answer.{IsGivenAt};
 
     ghost roster: { Self → Roster };
@@ -60,13 +62,15 @@ pub trait Serves: Delivers + MayBreak {
         ensures given { IsGivenAt Self.gives (roster self.now).stations pass.old.station what result.0 result.1 result.2 };
 
     /// The boards of the stations of the site of this number, as [`Desk::site_boards`](site_desk::Desk::site_boards)
-    /// gives them.
+    /// gives them, with the looks that they take.
     fn boards<R: Wait>(
         &self,
         rt: &R,
         alloc: Global,
         site: u16,
+        work: &mut Work,
     ) -> Result<Seen<Self::Seen>, BoardFault>
+        ensures work { IsWork (site_looks (roster self.now).stations site) work.old work.new }
         ensures boards { IfOk result (λ r. AreBoardsAt (roster self.now).stations site r.0.items) }
         ensures totals { IfOk result (λ r. r.1 ≡ sum_of_figures (map (λ s. s.1.figures) r.0.items)) }
         ensures shown { IfOk result (λ r. shows self.now site r.0.items r.2) };

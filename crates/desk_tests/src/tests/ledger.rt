@@ -101,10 +101,10 @@ fn takes(
 }
 
 // What the board of the ledger shows; if it found no memory, it is asked for once more.
-fn shown(ledger: &StationLedger, alloc: Global) -> Option<u64> {
-    let board = match ledger.board(alloc) {
+fn shown(ledger: &StationLedger, alloc: Global, work: &mut Work) -> Option<u64> {
+    let board = match ledger.board(alloc, work) {
         Ok(board) => board,
-        Err(_) => ledger.board(alloc).ok()?,
+        Err(_) => ledger.board(alloc, work).ok()?,
     };
     Some(board.figures().up)
 }
@@ -114,7 +114,7 @@ fn shown(ledger: &StationLedger, alloc: Global) -> Option<u64> {
 fn after_all(alloc: Global, work: &mut Work) -> Option<(bool, u64)> {
     let mut ledger = opened(alloc)?;
     let are_taken = takes(&mut ledger, alloc, DIFFERENCES, work);
-    Some((are_taken, shown(&ledger, alloc)?))
+    Some((are_taken, shown(&ledger, alloc, work)?))
 }
 
 // Also run with each allocation refused in turn: a board that finds no memory leaves the ledger as it was.

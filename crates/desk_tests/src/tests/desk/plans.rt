@@ -2,6 +2,7 @@ use super::scenes::{Scene, plays};
 use super::{
     FIRST, deliver, figures, has, has_figures, has_totals, is_tied, key_of, pass_of, tells,
 };
+use energy_flow::Work;
 use ledger_model::{Answer, Command, Kind, Name};
 use site_book::{Naming, Viewer};
 use site_desk::{BoardFault, CloseFault, Closed, Desk, EnlistFault, MAX_PASSES, NoGate, Pass};
@@ -78,8 +79,14 @@ fn three_events<J: Naming, R: Wait + Threads + Clock>(
 }
 
 // Returns whether A has its board of the three events.
-fn shows_board<J: Naming, R: Wait>(rt: &R, alloc: Global, desk: &Desk<J>) -> Option<bool> {
-    let board = desk.station_board(rt, alloc, &Name::new("A")?).ok()?;
+fn shows_board<J: Naming, R: Wait + Threads>(
+    rt: &R,
+    alloc: Global,
+    desk: &Desk<J>,
+) -> Option<bool> {
+    let mut work = Work::open(rt);
+    let name = Name::new("A")?;
+    let board = desk.station_board(rt, alloc, &name, &mut work).ok()?;
     let is_summed = board.figures() == figures([3, 0, 1, 0, 0, 600_000, 0]);
     Some(board.quarters().len() == 2 && is_summed)
 }
@@ -87,7 +94,8 @@ fn shows_board<J: Naming, R: Wait>(rt: &R, alloc: Global, desk: &Desk<J>) -> Opt
 // Returns whether Z has neither a board nor a pass.
 fn knows_no_z<J: Naming, R: Wait + Threads>(rt: &R, alloc: Global, desk: &Desk<J>) -> Option<bool> {
     let name = Name::new("Z")?;
-    let none = desk.station_board(rt, alloc, &name).err()?;
+    let mut work = Work::open(rt);
+    let none = desk.station_board(rt, alloc, &name, &mut work).err()?;
     let unknown = desk.enlist(rt, &name).err()?;
     Some(none == BoardFault::UnknownStation && unknown == EnlistFault::UnknownStation)
 }
@@ -184,8 +192,15 @@ fn enlist_refuses_all(rt: HostRuntime) -> Result<(), Fail> {
 }
 
 // How many events the board of a station shows.
-fn events_of<J: Naming, R: Wait>(rt: &R, alloc: Global, desk: &Desk<J>, text: &str) -> Option<u64> {
-    let board = desk.station_board(rt, alloc, &Name::new(text)?).ok()?;
+fn events_of<J: Naming, R: Wait + Threads>(
+    rt: &R,
+    alloc: Global,
+    desk: &Desk<J>,
+    text: &str,
+) -> Option<u64> {
+    let mut work = Work::open(rt);
+    let name = Name::new(text)?;
+    let board = desk.station_board(rt, alloc, &name, &mut work).ok()?;
     Some(board.figures().events)
 }
 

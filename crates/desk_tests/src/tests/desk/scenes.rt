@@ -8,6 +8,7 @@ use super::has;
 use super::plans::{changes, closes_with_all, each_pass, has_changes, posts, second_board};
 use super::three::{has_three, three_sides};
 use crate::tests::plans::{opened, plan_of};
+use energy_flow::Work;
 use site_book::{Naming, Tables, Viewer};
 use site_desk::{Closed, Desk, Pass, Plan};
 use std::alloc::Global;
@@ -57,11 +58,11 @@ fn play<J: Naming + Send + Sync, R: Threads + Wait + Clock + Sync>(
 }
 
 // Returns whether the desk closed as the scene left it.
-fn is_left<J: Naming>(alloc: Global, closed: &Closed<J>, scene: Scene) -> bool {
+fn is_left<J: Naming>(alloc: Global, closed: &Closed<J>, scene: Scene, work: &mut Work) -> bool {
     match scene {
         Scene::Changes => has_changes(closed),
         Scene::Posts => has(closed, 1, 1),
-        Scene::ThreeSides => has_three(alloc, closed),
+        Scene::ThreeSides => has_three(alloc, closed, work),
         _ => true,
     }
 }
@@ -79,7 +80,8 @@ fn at_desk<J: Naming + Send + Sync, R: Abort + Threads + Wait + Clock + Sync>(
     let (desk, mut viewers) = opened::<J>(alloc, tables, plan).ok_or("no desk")?;
     let passes = play(rt, alloc, &desk, &mut viewers, scene).ok_or("something else was seen")?;
     let closed = closes_with_all(alloc, desk, passes, viewers).ok_or("not closed")?;
-    assert!(rt; is_left(alloc, &closed, scene));
+    let mut work = Work::open(rt);
+    assert!(rt; is_left(alloc, &closed, scene, &mut work));
     Ok(())
 }
 

@@ -8,6 +8,7 @@ use super::{
     pass_of, tells,
 };
 use board_report::{SiteBoard, site_board, write_board};
+use energy_flow::Work;
 use ledger_model::{Answer, Command, Figures, Kind, Name, Order, Periods, Refusal};
 use site_book::{Naming, Viewer};
 use site_desk::{Closed, Desk, NoGate, Pass};
@@ -228,25 +229,31 @@ fn second() -> Figures {
 }
 
 // Returns whether the station's board has these figures, this many periods, and one transaction.
-fn has_board<J: Naming, R: Wait>(
+fn has_board<J: Naming, R: Wait + Threads>(
     rt: &R,
     alloc: Global,
     desk: &Desk<J>,
     text: &str,
     expected: (Figures, usize),
 ) -> Option<bool> {
-    let board = desk.station_board(rt, alloc, &Name::new(text)?).ok()?;
+    let mut work = Work::open(rt);
+    let name = Name::new(text)?;
+    let board = desk.station_board(rt, alloc, &name, &mut work).ok()?;
     let shown = (board.figures(), board.quarters().len());
     Some(shown == expected && board.transactions().len() == 1)
 }
 
 // The board of a station; it is within the limits of its ledger.
-fn board_within(alloc: Global, ledger: &StationLedger) -> Result<StationBoard, AllocError>
+fn board_within(
+    alloc: Global,
+    ledger: &StationLedger,
+    work: &mut Work,
+) -> Result<StationBoard, AllocError>
     ensures few { ledger.now.limits.readings ≤ most_readings }
     ensures within { IfOk result (λ b. IsBoardWithin ledger.now.limits b) }
 {
     let _readings = ledger.limits().readings();
-    ledger.board(alloc)
+    ledger.board(alloc, work)
 }
 
 // The boards of both stations by name, if both have the default length of periods; their sums fit.
@@ -255,13 +262,14 @@ fn boards_of<J: Naming>(
     closed: &Closed<J>,
     first: Name,
     second: Name,
+    work: &mut Work,
 ) -> Result<Option<Vec<(Name, StationBoard)>>, AllocError>
     requires { length closed.now.cells ≡ 2 }
     ensures fit { IfOk result (λ r. IfSome r (λ boards. QuartersFit (station_quarters boards.items))) }
     ensures periods { IfOk result (λ r. IfSome r (λ boards. AreOfPeriod default_periods boards.items)) }
 {
-    let a = board_within(alloc, closed.ledger(0))?;
-    let b = board_within(alloc, closed.ledger(1))?;
+    let a = board_within(alloc, closed.ledger(0), work)?;
+    let b = board_within(alloc, closed.ledger(1), work)?;
     if a.period() != Periods::default() || b.period() != Periods::default() {
         return Ok(None);
     }
@@ -269,11 +277,11 @@ fn boards_of<J: Naming>(
 }
 
 // The board of the site over both stations.
-fn board_of<J: Naming>(alloc: Global, closed: &Closed<J>) -> Option<SiteBoard> {
+fn board_of<J: Naming>(alloc: Global, closed: &Closed<J>, work: &mut Work) -> Option<SiteBoard> {
     if closed.stations() != 2 || closed.sites() != 1 {
         return None;
     }
-    let stations = boards_of(alloc, closed, Name::new("A")?, Name::new("B")?).ok()??;
+    let stations = boards_of(alloc, closed, Name::new("A")?, Name::new("B")?, work).ok()??;
     let name = Name::new("north")?;
     site_board(
         alloc,
@@ -287,13 +295,17 @@ fn board_of<J: Naming>(alloc: Global, closed: &Closed<J>) -> Option<SiteBoard> {
 }
 
 // Returns whether the threads leave the board of their script.
-fn is_board_of_script<J: Naming>(alloc: Global, closed: &Closed<J>) -> Option<bool> {
-    let text = write_board(alloc, &board_of(alloc, closed)?).ok()?;
+fn is_board_of_script<J: Naming>(
+    alloc: Global,
+    closed: &Closed<J>,
+    work: &mut Work,
+) -> Option<bool> {
+    let text = write_board(alloc, &board_of(alloc, closed, work)?).ok()?;
     Some(text.as_slice() == BOARD.as_bytes())
 }
 
 // Returns whether each station's board and the answers of A are right after the three sides.
-fn is_right<J: Naming, R: Wait + Clock>(
+fn is_right<J: Naming, R: Wait + Threads + Clock>(
     rt: &R,
     alloc: Global,
     desk: &Desk<J>,
@@ -332,7 +344,7 @@ pub fn three_sides<J: Naming + Send + Sync, R: Threads + Wait + Clock + Sync>(
 }
 
 // Returns whether the desk closed on what the three sides did.
-pub fn has_three<J: Naming>(alloc: Global, closed: &Closed<J>) -> bool {
+pub fn has_three<J: Naming>(alloc: Global, closed: &Closed<J>, work: &mut Work) -> bool {
     let both = figures([6, 0, 2, 0, 0, 650_000, 1_500_000]);
     has(closed, 2, 1)
         && is_tied(closed, 0, 5)
@@ -340,7 +352,7 @@ pub fn has_three<J: Naming>(alloc: Global, closed: &Closed<J>) -> bool {
         && has_figures(closed, 0, first())
         && has_figures(closed, 1, second())
         && has_totals(closed, 0, both)
-        && is_board_of_script(alloc, closed) == Some(true)
+        && is_board_of_script(alloc, closed, work) == Some(true)
 }
 
 #[test]

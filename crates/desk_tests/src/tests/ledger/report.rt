@@ -112,7 +112,7 @@ fn station(alloc: Global, work: &mut Work, asked: &[Asked]) -> Result<StationBoa
             return Err(Refused);
         }
     }
-    Ok(ledger.board(alloc)?)
+    Ok(ledger.board(alloc, work)?)
 }
 
 // Whether there is a command, and the ledger accepts it.

@@ -1,5 +1,6 @@
 use super::memory::{CLOSE, Frames, Memory, PING, PONG, Peer, TEXT};
 use super::{Scene, TenOClock, plays, text_frames};
+use energy_flow::Work;
 use ledger_model::Name;
 use site_book::Naming;
 use site_desk::{Desk, NoGate, Pass};
@@ -67,13 +68,15 @@ fn pass_of_texts<J: Naming + Send + Sync, R: Threads + Wait + Clock>(
 }
 
 // The events, complete transactions and energy of a station.
-fn shown<J: Naming + Send + Sync, R: Wait>(
+fn shown<J: Naming + Send + Sync, R: Wait + Threads>(
     rt: &R,
     alloc: Global,
     desk: &Desk<J>,
     name: &Name,
 ) -> Option<(u64, u64, u64)> {
-    let figures = desk.station_board(rt, alloc, name).ok()?.figures();
+    let mut work = Work::open(rt);
+    let board = desk.station_board(rt, alloc, name, &mut work).ok()?;
+    let figures = board.figures();
     Some((figures.events, figures.complete, figures.up))
 }
 

@@ -1,6 +1,6 @@
 use Rattle.std.proofs.Common.{◌≡◌, ◌-◌, ◌*◌, ◌/◌, ◌<◌, ◌≤◌, ◌^◌, sym, ap, subst, ◌∙◌, arith}
 use Rattle.energy_flow.specs.Flow.{Energy}
-use Rattle.ledger_model.{specs.Parts.{Change}, specs.Ranges.greatest_reading}
+use Rattle.ledger_model.{specs.Parts.Change, specs.Ranges.greatest_reading}
 use Rattle.quarter_table.proofs.Coming.{product_fits}
 use Rattle.quarter_table.proofs.shares.Change.come_by.Goals as goal
 

@@ -1,7 +1,7 @@
 use Rattle.std.{proofs.Common.{◌≡◌, ◌+◌, ◌-◌, ◌*◌, ◌/◌, ◌≤◌, ◌++◌, ◌∷◌, [], suc, ℕ, List, append_assoc, sym, ap, subst, ◌∙◌, arith}, proofs.Math.Nat.{div-mul-le_self, mul-le-mul_right}}
 use Rattle.energy_flow.specs.Flow.{Energy, CanMinus, difference_of, minus}
 use Rattle.ledger_model.specs.Parts.{Change, Part, level_at, shares_from}
-use Rattle.quarter_table.{specs.Shares.{come_by}, proofs.Coming.{between_levels, come_later, come_within, level_by}}
+use Rattle.quarter_table.{specs.Shares.come_by, proofs.Coming.{between_levels, come_later, come_within, level_by}}
 use Rattle.quarter_table.proofs.shares.Change.put_shares.Goals as goal
 
 pub loop-number-preserved : goal.loop-number-preserved
