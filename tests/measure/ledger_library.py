@@ -179,7 +179,9 @@ def measure(library: Library, program: str, rounds: int) -> None:
         alone = timed(call, rounds)
         process = timed(lambda script=script: replay(program, script), min(rounds, 60))
         four = THREADS * rounds / together(call_often)
-        print(f"{messages} messages: call {alone}; process {process}; {four:,.0f} calls a second on four threads")
+        print(
+            f"{messages} messages: call {alone}; process {process}; {four:,.0f} calls a second on four threads"
+        )
 
 
 def main() -> int:
@@ -189,7 +191,9 @@ def main() -> int:
     parser.add_argument("library", type=Path, metavar="LIBRARY", help="the shared object")
     parser.add_argument("program", metavar="PROGRAM", help="a program that replays")
     parser.add_argument("scripts", type=Path, nargs="*", metavar="SCRIPT", help="what both answer")
-    parser.add_argument("--rounds", type=int, default=200, metavar="N", help="how often each is timed")
+    parser.add_argument(
+        "--rounds", type=int, default=200, metavar="N", help="how often each is timed"
+    )
     words = parser.parse_args()
     library = Library(words.library)
     print(f"version {library.version}")

@@ -8,6 +8,7 @@ ghost use Rattle.journal_script.{specs.Place.{place_of, posts_of}, specs.Restori
 use crate::fault::RestoreFault;
 use crate::restored::Restored;
 use crate::source::Source;
+use energy_flow::Work;
 use message_ahead::Lookahead;
 use script_ledgers::ScriptAhead;
 use site_book::{Naming, Tables};
@@ -53,12 +54,13 @@ impl<J: Naming> RestoredScript<J> {
         ensures grows { OnOk result (Grows (T.contents told.old) (T.contents told.new)) }
         ensures fails { IfErr result (λ e. e ≢ RestoreFault.NotMarked) }
     {
+        let mut work = Work::open(rt);
         'lines: loop {
             self.look(rt, reader)?;
             if !self.next(reader)? {
                 return Ok(());
             }
-            self.answer(rt, told)?;
+            self.answer(rt, told, &mut work)?;
             continue 'lines;
         }
     }
@@ -93,6 +95,7 @@ impl<J: Naming> RestoredScript<J> {
         &mut self,
         rt: &X,
         told: &mut T,
+        work: &mut Work,
     ) -> Result<(), RestoreFault>
         requires few { posts_of self.old < 2 ^ 62 }
         ensures step { OnOk result (place_of self.new ≡ read_on (place_of self.old)) }
@@ -101,7 +104,7 @@ impl<J: Naming> RestoredScript<J> {
         ensures fails { IfErr result (λ e. e ≢ RestoreFault.NotMarked) }
     {
         let mut reply = Vec::new(rt.alloc());
-        self.script.answer(rt, self.source.line(), &mut reply)?;
+        self.script.answer(rt, self.source.line(), &mut reply, work)?;
         self.source.tell(told, &reply);
         Ok(())
     }

@@ -24,7 +24,7 @@ SILENT = (b"limits", b"station", b"period", b"order", b"settle", b"now")
 # A line that writes itself: by it the text of the line before it ends.
 MARK = b"mark answered\n"
 # How the lines begin that may change what a board shows.
-CHANGES = (b"msg ", b"void ", b"restore ", b"erase ")
+CHANGES = (b"msg ", b"deliver ", b"void ", b"restore ", b"erase ")
 # How the answers begin that go up to a line `end`.
 LISTS = (b"board ", b"events ", b"readings ")
 # Bytes that are handed to the replay at once.

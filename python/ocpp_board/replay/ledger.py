@@ -16,6 +16,7 @@ from ocpp_board.replay.script_lines import ScriptLines
 # The first words of lines that need the ledgers.
 OPENING = (
     b"msg",
+    b"deliver",
     b"void",
     b"restore",
     b"erase",

@@ -24,6 +24,8 @@ FORMS = {
     "settle": "settle <site> <word>",
     "now": "now <time>",
     "msg": "msg <station> <text>",
+    "deliver": "deliver <station> <text>",
+    "asks": "asks <text>",
     "void": "void <station> <transaction id> <seqNo>",
     "restore": "restore <station> <transaction id> <seqNo>",
     "erase": "erase <station> <transaction id> <seqNo>",
@@ -35,6 +37,8 @@ FORMS = {
     "readings": "readings <station> <transaction id>",
     "mark": "mark <word>",
 }
+# The lines whose last word is a message, behind a station's name.
+SENDING = ("msg ", "deliver ")
 NO_NAME_CHARACTER = re.compile(r"[^A-Za-z0-9*\-_=:+|@.]")
 NUMBER = re.compile(r"0|[1-9][0-9]*")
 BYTE_ORDER_MARK = b"\xef\xbb\xbf"
@@ -120,7 +124,9 @@ def words_fault(words: list[str]) -> Said | None:
 
 def words_of(text: str) -> list[str]:
     """The words of a line; a message is one of them."""
-    return text.split(" ", 2) if text.startswith("msg ") else text.split(" ")
+    if text.startswith("asks "):
+        return text.split(" ", 1)
+    return text.split(" ", 2) if text.startswith(SENDING) else text.split(" ")
 
 
 def bytes_fault(line: bytes, number: int) -> Said | None:
@@ -136,7 +142,10 @@ def bytes_fault(line: bytes, number: int) -> Said | None:
         text = line.decode("utf-8")
     except UnicodeDecodeError as fault:
         return f"byte {fault.start + 1} is not UTF-8", "save the file as UTF-8"
-    if "\t" in " ".join(words_of(text)[:2] if text.startswith("msg ") else words_of(text)):
+    words = words_of(text)
+    if text.startswith((*SENDING, "asks ")):
+        words = words[: 1 if text.startswith("asks ") else 2]
+    if "\t" in " ".join(words):
         return f"there is a tab at character {text.index(chr(9)) + 1}", "one blank between words"
     if text.endswith("\r"):
         return (
@@ -177,7 +186,7 @@ def bad_line(line: bytes, number: int) -> Said:
     form = FORMS.get(words[0])
     if form is None:
         return first_word_fault(words[0])
-    if words[0] != "msg" and (said := blanks_fault(text)):
+    if words[0] not in ("msg", "deliver", "asks") and (said := blanks_fault(text)):
         return said
     count = len(form.split(" <"))
     if len(words) != count:
