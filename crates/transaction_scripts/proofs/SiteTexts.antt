@@ -1,11 +1,11 @@
 -- The board of a site from what the scripts of its transactions alone show.
 use Rattle.std.{proofs.Common.{◌≡◌, ℕ, Bool, true, false, cond, List, [], ◌∷◌, Some, All, map, refl, sym, ap, subst, ◌∙◌, bytes_eq}, proofs.lemmas.Bool.or_parts, proofs.lemmas.List.Elements.{All-cons, All-head, All-nil, All-tail}}
-use Rattle.board_report.{specs.Named.NamedBoard, specs.Texts.board_text}
-use Rattle.ledger_model.{specs.Board.{Board, SiteBoard, board_by}, specs.Content.entries, specs.declared.order.Order.Order, specs.Periods.Periods, specs.World.{Station, World}, proofs.SumsByTransaction.{one_text, same_text}}
-use Rattle.script_ledgers.specs.Script.{Script, board_of_site, is_among, line_step, order_named, period_named, script_after, shown_station, start, station_named, stations_of, step_by}
-use Rattle.script_lines.{specs.LineMeaning.{asks_board, line_meaning}, specs.Lines.{Line, lines_of}, specs.Texts.fault_line, specs.declared.script_line.LineFault.TheVariants.UnknownSite}
-use Rattle.transaction_laws.{specs.Alone.alone, specs.BoardSums.{board_alone, transactions}, specs.SiteSums.{boards_alone, sum_of_stations}, proofs.LoneBoards.map_same, proofs.LoneEntries.turned_text, proofs.SiteBoards.site_of_transactions}
-use Rattle.transaction_scripts.{specs.AnyPlan.HasAlone, specs.LoneBytes.end_of_script, specs.LoneScripts.{lone_count, lone_lines}, specs.SiteBoards.{EachHasAlone, ScriptEach, board_together, boards_shown, lone_scripts, shown_on_site, station_shown}, proofs.LoneSteps.{all_lines, once_after}, proofs.LoneTexts.same_lines, proofs.LoneWorlds.{Either, NamedOnce, name_found, named_only, names, only_own, only_some}}
+use Rattle.board_report.{specs.Named.NamedBoard, specs.Texts.{board_text, total_text}}
+use Rattle.ledger_model.{specs.Board.{Board, SiteBoard, board_by, figures_by, sum_of_figures}, specs.Content.entries, specs.declared.figures.Figures.Figures, specs.declared.order.Order.Order, specs.Periods.Periods, specs.World.{Station, World}, proofs.SumsByTransaction.{one_text, same_text}}
+use Rattle.script_ledgers.specs.Script.{Script, board_of_site, energy_answer, energy_line, export_answer, export_line, is_among, line_step, order_named, period_named, script_after, shown_station, start, station_named, stations_of, step_by, total_answer}
+use Rattle.script_lines.{specs.LineMeaning.{asks_board, asks_energy, asks_export, asks_total, line_meaning}, specs.Lines.{Line, lines_of}, specs.Texts.{ended_line, fault_line}, specs.declared.script_line.LineFault.TheVariants.UnknownSite}
+use Rattle.transaction_laws.{specs.Alone.alone, specs.BoardSums.{board_alone, transactions}, specs.SiteSums.{StationBoards, boards_alone, sum_of_stations}, proofs.LoneBoards.{content_figures, map_same, map_twice}, proofs.LoneEntries.turned_text, proofs.SiteBoards.site_of_transactions}
+use Rattle.transaction_scripts.{specs.AnyPlan.HasAlone, specs.LoneBytes.end_of_script, specs.LoneScripts.{lone_count, lone_lines}, specs.SiteBoards.{EachHasAlone, ScriptEach, board_together, boards_shown, figures_together, lone_scripts, shown_on_site, station_shown}, proofs.LoneSteps.{all_lines, once_after}, proofs.LoneTexts.same_lines, proofs.LoneWorlds.{Either, NamedOnce, name_found, named_only, names, only_own, only_some}}
 
 -- a name that none has is among them once at most
 none_once : (x : List ℕ) (ys : List (List ℕ)) → is_among x ys ≡ false → NamedOnce x ys
@@ -148,3 +148,30 @@ text_together max_line_bytes bytes line site asks there =
       lone_count name tx 0 start lines,
       subst (λ ls. HasAlone name tx (lone_count name tx 0 start lines) (script_after start lines) (script_after start ls)) (sym (same_lines max_line_bytes name tx bytes)) (has_alone name tx lines station found),
     ))
+
+-- the figures of a station, and the texts that show them
+module _ (each : ScriptEach) (lines : List Line) (line : Line) (name : List ℕ) (station : Station) (found : station_named name (script_after start lines).world ≡ Some station)
+    (has : EachHasAlone each station.site (script_after start lines)) where
+  figures_alike : figures_by (order_named (script_after start lines) station.site) (entries station.content) ≡ figures_together each station
+  figures_alike =
+      let s = script_after start lines in
+      let here : IsFound s.world station = subst (λ x. station_named x s.world ≡ Some station) (name_found name s.world station found) found in
+      content_figures (order_named s station.site) station.content
+      ∙ ap sum_of_figures (sym (map_twice (λ (b : Board). b.figures) (board_alone (order_named s station.site) (period_named s station.site) station.content) (transactions station.content)))
+      ∙ ap (λ (bs : StationBoards). sum_of_figures (map (λ (b : Board). b.figures) bs.1)) (boards_alike each station.site s has station here (same_text station.site))
+
+  pub total_together : line_meaning line ≡ asks_total name → (line_step (script_after start lines) line).1 ≡ ended_line (total_text (figures_together each station))
+  total_together asks =
+      let s = script_after start lines in
+      ap (λ m. (step_by s m).1) asks ∙ ap (total_answer (order_named s)) found ∙ ap (λ f. ended_line (total_text f)) figures_alike
+
+  pub energy_together : line_meaning line ≡ asks_energy name → (line_step (script_after start lines) line).1 ≡ energy_line (record { up = (figures_together each station).up; down = (figures_together each station).down })
+  energy_together asks =
+      let s = script_after start lines in
+      ap (λ m. (step_by s m).1) asks ∙ ap (energy_answer (order_named s)) found ∙ ap (λ (f : Figures). energy_line (record { up = f.up; down = f.down })) figures_alike
+
+  pub export_together : line_meaning line ≡ asks_export name
+      → (line_step (script_after start lines) line).1 ≡ export_line (record { up = (figures_together each station).export_up; down = (figures_together each station).export_down })
+  export_together asks =
+      let s = script_after start lines in
+      ap (λ m. (step_by s m).1) asks ∙ ap (export_answer (order_named s)) found ∙ ap (λ (f : Figures). export_line (record { up = f.export_up; down = f.export_down })) figures_alike

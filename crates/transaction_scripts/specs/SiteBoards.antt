@@ -1,7 +1,7 @@
 -- The board of a site, put together from what scripts with one of its transactions each show.
 use Rattle.std.{specs.Prelude.{◌≡◌, ℕ, true, List, [], ◌∷◌, map, Some, if◌then◌else◌}, specs.Str.bytes_eq}
 use Rattle.board_report.specs.Named.{NamedBoard}
-use Rattle.ledger_model.{specs.Board.{Board, board_by}, specs.World.Station}
+use Rattle.ledger_model.{specs.Board.{Board, board_by, sum_of_figures}, specs.declared.figures.Figures.Figures, specs.World.Station}
 use Rattle.script_ledgers.specs.Script.{Script, board_of_site, order_named, period_named, station_named, stations_of}
 use Rattle.transaction_laws.{specs.BoardSums.transactions, specs.SiteSums.{StationBoards, sum_of_stations}}
 use Rattle.transaction_scripts.{specs.AnyPlan.HasAlone, specs.LoneBytes.{end_of_script, lone_script}}
@@ -23,6 +23,10 @@ ScriptEach = Station → List ℕ → Script
 -- of the site.
 abbrev pub boards_shown : ScriptEach → List ℕ → Station → StationBoards
 boards_shown each site station = (station.name, map (λ tx. shown_on_site site station.name (each station tx)) (transactions station.content))
+
+-- The sum of the figures that the scripts of a station's transactions show of it.
+abbrev pub figures_together : ScriptEach → Station → Figures
+figures_together each station = sum_of_figures (map (λ b. b.figures) (boards_shown each station.site station).1)
 
 -- The board of a site put together from these: the sums of all figures and of the energies of each period, and each
 -- station with the sum of its own.

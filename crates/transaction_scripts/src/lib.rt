@@ -14,4 +14,5 @@ mod scripts;
 
 pub use scripts::{
     boards_of_transactions, bytes_of_transactions, plans_of_transactions, scripts_of_transactions,
+    totals_of_transactions,
 };

@@ -1,11 +1,11 @@
 //! Laws of scripts, and of one transaction of one station in them.
 ghost use Rattle.std.{specs.Prelude.{◌≡◌, ℕ, List, All, Some, true}, specs.List.flat_map};
-ghost use Rattle.board_report.specs.Texts.{board_text};
+ghost use Rattle.board_report.specs.Texts.{board_text, total_text};
 ghost use Rattle.ledger_model.{specs.Board.board_by, specs.Content.entries, specs.declared.order.Order.Order, specs.Periods.Periods, specs.World.Station};
-ghost use Rattle.script_ledgers.specs.Script.{Script, is_among, line_step, script_after, script_text, start, station_named};
-ghost use Rattle.script_lines.{specs.LineMeaning.{asks_board, line_meaning}, specs.Lines.{Line, lines_of}};
+ghost use Rattle.script_ledgers.specs.Script.{Script, energy_line, export_line, is_among, line_step, script_after, script_text, start, station_named};
+ghost use Rattle.script_lines.{specs.LineMeaning.{asks_board, asks_energy, asks_export, asks_total, line_meaning}, specs.Lines.{Line, lines_of}, specs.Texts.ended_line};
 ghost use Rattle.transaction_laws.specs.BoardSums.{sum_of_boards};
-ghost use Rattle.transaction_scripts.{specs.AnyPlan.{DeclareAlike, DeclaresNothing, HasAlone}, specs.LoneBytes.{end_of_script, lone_script}, specs.LoneScripts.{IsAloneAfter, NoneRefused, line_texts, lines_about, lone_boards, lone_count, lone_lines, lone_texts}, specs.SiteBoards.{EachHasAlone, ScriptEach, board_together, lone_scripts}};
+ghost use Rattle.transaction_scripts.{specs.AnyPlan.{DeclareAlike, DeclaresNothing, HasAlone}, specs.LoneBytes.{end_of_script, lone_script}, specs.LoneScripts.{IsAloneAfter, NoneRefused, line_texts, lines_about, lone_boards, lone_count, lone_lines, lone_texts}, specs.SiteBoards.{EachHasAlone, ScriptEach, board_together, figures_together, lone_scripts}};
 
 /// A transaction depends on its own lines of a script alone. The script of just these lines, with the plan, the
 /// moments, the questions for the transaction's lists and those for what a text asks for, writes for each line
@@ -54,4 +54,18 @@ pub fn boards_of_transactions()
         → (line_step (end_of_script max_line_bytes bytes) line).1 ≡ board_text (board_together (lone_scripts max_line_bytes bytes) site (end_of_script max_line_bytes bytes)) }
     ensures any { (each : ScriptEach) (lines : List Line) (line : Line) (site : List ℕ) → line_meaning line ≡ asks_board site → is_among site (script_after start lines).sites ≡ true
         → EachHasAlone each site (script_after start lines) → (line_step (script_after start lines) line).1 ≡ board_text (board_together each site (script_after start lines)) }
+{}
+
+/// The answers to `total`, `energy` and `export` of a station are the sums of what the scripts of its transactions
+/// show of it, by any scripts that have one transaction each.
+pub fn totals_of_transactions()
+    ensures totals { (each : ScriptEach) (lines : List Line) (line : Line) (name : List ℕ) (station : Station) → station_named name (script_after start lines).world ≡ Some station
+        → EachHasAlone each station.site (script_after start lines) → line_meaning line ≡ asks_total name
+        → (line_step (script_after start lines) line).1 ≡ ended_line (total_text (figures_together each station)) }
+    ensures energies { (each : ScriptEach) (lines : List Line) (line : Line) (name : List ℕ) (station : Station) → station_named name (script_after start lines).world ≡ Some station
+        → EachHasAlone each station.site (script_after start lines) → line_meaning line ≡ asks_energy name
+        → (line_step (script_after start lines) line).1 ≡ energy_line (record { up = (figures_together each station).up; down = (figures_together each station).down }) }
+    ensures exports { (each : ScriptEach) (lines : List Line) (line : Line) (name : List ℕ) (station : Station) → station_named name (script_after start lines).world ≡ Some station
+        → EachHasAlone each station.site (script_after start lines) → line_meaning line ≡ asks_export name
+        → (line_step (script_after start lines) line).1 ≡ export_line (record { up = (figures_together each station).export_up; down = (figures_together each station).export_down }) }
 {}
