@@ -4,8 +4,7 @@ use Rattle.ledger_model.{specs.declared.order.Order.Order, specs.declared.order.
 use Rattle.marked_json.{specs.declared.fault.JsonFault.JsonFault, specs.Reading.marked_reading}
 use Rattle.script_lines.{specs.declared.script_line.LineFault.TheVariants.{BadLine, DeclaredLate, PlanLimit}, specs.declared.script_line.Operation.Operation, specs.declared.script_line.TxList.TxList, specs.declared.script_line.TxList.TheVariants.{Events, Readings}, specs.LineMeaning.{LineMeaning, ◌>>=◌, nothing, fails, sets_limits, declares, sets_period, sets_order, sets_settle, tells, sends, delivers, commands, asks_energy, asks_export, asks_total, asks_board, lists, asks_meaning, marks, by_bytes, by_first_word, by_words, command_line, deliver_line, is_number, is_space, list_line, tx_id, limits_line, line_meaning, moment, msg_line, name, now_line, number, order_line, order_word, settle_line, settle_word, parted, period_line, question_line, station_line, words}, specs.Lines.ended, specs.Texts.fault_line}
 use Rattle.script_lines.specs.declared.script_line.Operation.TheVariants as operation
-use Rattle.script_ledgers.proofs.Told.{delivered_state}
-use Rattle.script_ledgers.specs.Script.{KeepsSites, Script, are_limits, by_meaning, limited_to, line_step, sent_to, station_named, step_by}
+use Rattle.script_ledgers.{proofs.Told.delivered_state, specs.Script.{KeepsSites, Script, are_limits, by_meaning, limited_to, line_step, sent_to, station_named, step_by}}
 use Rattle.transaction_event.specs.Message.{Meaning, Ready, message}
 use Rattle.journal_script.{proofs.LastByte.{keeps_last, last, last_apart, last_behind}, proofs.NotJson.{hash_not_read, s_not_read}, proofs.Unheard.{IsAnswered, answered_where_not_read}}
 

@@ -4,8 +4,7 @@ use Rattle.kept_desk.{specs.declared.entry.Entry.Entry, specs.Entries.{line_text
 use Rattle.ledger_model.{specs.declared.command.Command.Command, specs.World.{Station, World, Happens, run, station_after, world_after}}
 use Rattle.transaction_event.specs.Message.{Meaning, Event, message}
 use Rattle.script_lines.{specs.LineMeaning.{LineMeaning, nothing, fails, sets_limits, declares, sets_period, sets_order, sets_settle, tells, sends, delivers, commands, asks_energy, asks_export, asks_total, asks_board, lists, asks_meaning, marks, line_meaning}, specs.Lines.{Line, ended, lines_of, unended}, specs.Ranges.longest_line, proofs.Cuts.cut-ended}
-use Rattle.script_ledgers.proofs.Told.{delivered_state}
-use Rattle.script_ledgers.specs.Script.{KeepsSites, Script, by_meaning, commanded_to, line_step, sent_to, station_named, step_by, script_after}
+use Rattle.script_ledgers.{proofs.Told.delivered_state, specs.Script.{KeepsSites, Script, by_meaning, commanded_to, line_step, sent_to, station_named, step_by, script_after}}
 use Rattle.site_desk.specs.declared.plan.StationPlan.{StationPlan}
 use Rattle.journal_script.{specs.Journals.{IsSpoken, station_name}, proofs.Notes.{note_after, note_whole}, proofs.Whole.{after_both, lines_apart}}
 

@@ -104,7 +104,8 @@ impl<J: Naming> RestoredScript<J> {
         ensures fails { IfErr result (λ e. e ≢ RestoreFault.NotMarked) }
     {
         let mut reply = Vec::new(rt.alloc());
-        self.script.answer(rt, self.source.line(), &mut reply, work)?;
+        self.script
+            .answer(rt, self.source.line(), &mut reply, work)?;
         self.source.tell(told, &reply);
         Ok(())
     }

@@ -14,12 +14,7 @@ pub trait Ahead<X> {
 
     /// Notes where the next line begins, and reads the lines to come that the reader shows, if that is due. It consumes
     /// none of them and waits for none. If the reader fails to show them, it returns the reader's error.
-    fn look_on<R: BufRead>(
-        &mut self,
-        rt: &X,
-        lines: &LineReader,
-        reader: &mut R,
-    ) -> io::Result<()>
+    fn look_on<R: BufRead>(&mut self, rt: &X, lines: &LineReader, reader: &mut R) -> io::Result<()>
         ensures { Keeps (R.remaining reader.old) (R.remaining reader.new) };
 
     /// Whether the allocator refused memory for lines that were reached.

@@ -1,5 +1,5 @@
 -- An operator's answers, from the desk's answers.
-use Rattle.std.{proofs.Common.{◌≡◌, ℕ, zero, Bool, true, false, ◌⊎◌, inl, inr, List, [], ◌++◌, Option, Some, Result, Ok, Err, refl, ap, sym, subst, ◌∙◌, codes, slice_get}, specs.Prelude.{OnOk}}
+use Rattle.std.{proofs.Common.{◌≡◌, ℕ, zero, Bool, true, false, ◌⊎◌, inl, inr, List, [], ◌++◌, Option, Some, Result, Ok, Err, refl, ap, sym, subst, ◌∙◌, codes, slice_get}, specs.Prelude.OnOk}
 use Rattle.board_report.specs.Texts.{total_text}
 use Rattle.energy_flow.specs.Flow.{Energy}
 use Rattle.ledger_model.{specs.declared.answer.Answer.Answer, specs.declared.answer.Answer.TheVariants.{Accepted, Repeat, Refused}, specs.declared.answer.Refusal.TheVariants.{ConflictingEvent, TooManyTransactions, EventsFull, ReadingsFull, NoSuchEvent, AlreadyVoided, NotVoided, ChangesExhausted}, specs.declared.command.Command.Command, specs.declared.command.Command.TheVariants.Deliver, specs.Content.{Content, empty_content}, specs.Limits.Bounds, specs.Step.{Reached, answer}, specs.World.Station}
@@ -140,7 +140,7 @@ replied detail gives seen places name p named moment (Event id request) outcome 
         with_content name named.place.limits s.content,
         stands_with places name p.station named s.changes s.content s.reached,
         said ∙ ap (λ (a : Answer). event_text detail a (event_reply_bytes id request.token a)) (sym s.answered)
-        ∙ event_of detail id request (with_content name named.place.limits s.content) (record start { moment = moment }),
+            ∙ event_of detail id request (with_content name named.place.limits s.content) (record start { moment = moment }),
       )
       | inr e ↦ inr (said ∙ ap (λ (a : Answer). event_text detail a (event_reply_bytes id request.token a)) e)
     ]

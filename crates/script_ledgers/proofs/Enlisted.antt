@@ -32,15 +32,16 @@ pub enlisted_step : (old items : List Cell) (i : ℕ) (tallies more : List Talli
     → tallies ≡ map (λ d. new_tally d.station 0) (take i old) → c ≡ record (get_or items i x) { counts = (get_or items i x).counts ++ 0 ∷ [] }
     → p ≡ new_tally (get_or items i x).station (length (get_or items i x).counts) → more ≡ tallies ++ p ∷ []
     → (set items i c ≡ turned first_given (i + 1) old) × (more ≡ map (λ d. new_tally d.station 0) (take (i + 1) old))
-enlisted_step old items i tallies more x c p all less items_are tallies_are cell_is pass_is more_is =
+enlisted_step old items i tallies more x c p all less items_are tallies_are cell_is tally_is more_is =
     let same : get_or items i x ≡ get_or old i x = ap (λ l. get_or l i x) items_are ∙ turned_at first_given old i x less in
     let none : (get_or old i x).counts ≡ [] = all i x less in
     let cell : c ≡ first_given (get_or old i x) = cell_is ∙ (λ j. record (same j) { counts = (same j).counts ++ 0 ∷ [] })
     ∙ ap (λ (k : List ℕ). record (get_or old i x) { counts = k ++ 0 ∷ [] }) none in
-    let pass : p ≡ new_tally (get_or old i x).station 0 = pass_is ∙ (λ j. new_tally (same j).station (length (same j).counts)) ∙ ap (λ (k : List ℕ). new_tally (get_or old i x).station (length k)) none in
+    let tally : p ≡ new_tally (get_or old i x).station 0 = tally_is ∙ (λ j. new_tally (same j).station (length (same j).counts))
+    ∙ ap (λ (k : List ℕ). new_tally (get_or old i x).station (length k)) none in
     let to : Cell → Tallied = λ d. new_tally d.station 0 in (
       (λ j. set (items_are j) i (cell j)) ∙ turned_more first_given old i x less,
-      more_is ∙ (λ j. tallies_are j ++ pass j ∷ []) ∙ sym (ap (map to) (take_more old i x less) ∙ map-append to (take i old) (get_or old i x ∷ [])),
+      more_is ∙ (λ j. tallies_are j ++ tally j ∷ []) ∙ sym (ap (map to) (take_more old i x less) ∙ map-append to (take i old) (get_or old i x ∷ [])),
     )
 
 -- what a call that succeeded ensures

@@ -33,11 +33,7 @@ pub fn put_event_text(
 
 /// Appends the text of a line with a message that has this ready reply. The error says that the allocator refused
 /// memory.
-pub fn put_ready_text(
-    reply: &mut Vec<u8>,
-    detail: Detail,
-    text: &str,
-) -> Result<(), AllocError>
+pub fn put_ready_text(reply: &mut Vec<u8>, detail: Detail, text: &str) -> Result<(), AllocError>
     ensures { OnOk result (reply.new.items ≡ reply.old.items ++ ready_text detail text.now) }
 {
     match detail {

@@ -47,7 +47,13 @@ impl<J: Naming> OpenedScript<J> {
                 Ok(())
             }
             ScriptLine::Sends(name, text) => self.receive(&name, text, Detail::Reply, reply, work),
-            ScriptLine::Delivers(name, text) => self.receive(&name, text, Detail::Outcome, reply, work),
+            ScriptLine::Delivers(name, text) => self.receive(
+                &name,
+                text,
+                Detail::Outcome,
+                reply,
+                work,
+            ),
             ScriptLine::Commands(name, command) => self.command(&name, command, reply, work),
             ScriptLine::AsksEnergy(name) => self.put_energy(&name, reply),
             ScriptLine::AsksExport(name) => self.put_export(&name, reply),
@@ -255,12 +261,7 @@ impl<J: Naming> OpenedScript<J> {
     }
 
     // Puts the board of a site into the reply.
-    fn put_board(
-        &self,
-        name: &Name,
-        reply: &mut Vec<u8>,
-        work: &mut Work,
-    ) -> Result<(), AllocError>
+    fn put_board(&self, name: &Name, reply: &mut Vec<u8>, work: &mut Work) -> Result<(), AllocError>
         requires { reply.old.items ≡ [] }
         ensures work { work.old ≤ work.new }
         ensures text { OnOk result (reply.new.items ≡ board_answer (script_of self.now) name.now) }
@@ -298,12 +299,7 @@ impl<J: Naming> OpenedScript<J> {
 
     // The text of the board of the site of this name and number. Its totals are those of the site's
     // book.
-    fn board_text(
-        &self,
-        name: &Name,
-        site: usize,
-        work: &mut Work,
-    ) -> Result<Vec<u8>, AllocError>
+    fn board_text(&self, name: &Name, site: usize, work: &mut Work) -> Result<Vec<u8>, AllocError>
         requires { position (λ s. bytes_eq name.now s.name) self.now.draft.sites ≡ Some site }
         ensures work { work.old ≤ work.new }
         ensures text { IfOk result (λ text. text.items ≡ board_text (board_of_site (script_of self.now) name.now)) }

@@ -6,8 +6,8 @@ ghost use Rattle.script_ledgers.{specs.Drafts.planned, specs.Running.{AreTheirPa
 use crate::draft::Draft;
 use crate::hints::StationHints;
 use arrayvec::ArrayString;
-use site_book::{Naming, SiteBook, Tables};
 use energy_flow::Work;
+use site_book::{Naming, SiteBook, Tables};
 use site_desk::{Parts, Pass, StationCell, Tally};
 use std::alloc::{AllocError, Global};
 use std::thread::Threads;
@@ -99,10 +99,7 @@ fn enlist_all(alloc: Global, cells: &mut Vec<StationCell>) -> Result<Vec<Tally>,
 }
 
 // The passes of these tallies, each with a count of looks of its own.
-fn passes_of<X: AllocGlobal + Threads>(
-    rt: &X,
-    tallies: Vec<Tally>,
-) -> Result<Vec<Pass>, AllocError>
+fn passes_of<X: AllocGlobal + Threads>(rt: &X, tallies: Vec<Tally>) -> Result<Vec<Pass>, AllocError>
     ensures { IfOk result (λ passes. passes.items ≡ map (λ t. held t 0) tallies.items) }
 {
     let mut passes = Vec::with_capacity(rt.alloc(), tallies.len())?;

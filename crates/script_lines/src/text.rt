@@ -37,11 +37,7 @@ pub fn put_answer(reply: &mut Vec<u8>, answer: Answer) -> Result<(), AllocError>
 
 /// Appends `accepted <n> <reply>`, `repeat <reply>` or `refused <name> <reply>` and a line feed. The error says that the
 /// allocator refused memory.
-pub fn put_delivered(
-    reply: &mut Vec<u8>,
-    answer: Answer,
-    text: &str,
-) -> Result<(), AllocError>
+pub fn put_delivered(reply: &mut Vec<u8>, answer: Answer, text: &str) -> Result<(), AllocError>
     ensures { OnOk result (reply.new.items ≡ reply.old.items ++ delivered_line answer text.now) }
 {
     put_answer_text(reply, answer)?;

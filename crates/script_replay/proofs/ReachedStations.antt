@@ -4,8 +4,7 @@ use Rattle.ledger_model.{specs.declared.answer.Answer.Answer, specs.declared.ans
 use Rattle.transaction_event.{specs.Message.{Meaning, Event, Ready, Silence, message}, specs.Request.Request, proofs.AdmissibleRequests.each_delivery_is_admissible}
 use Rattle.script_replay.{specs.Laws.{StationsAreReached, EnergyIsFromScratch, ExportIsFromScratch, ListsAreFromScratch, TotalsAreFromScratch, BoardsAreFromScratch}, proofs.AdmissibleLines.{IsFine, fine_line}}
 use Rattle.script_lines.{specs.Lines.Line, specs.Texts.fault_line, specs.LineMeaning.{LineMeaning, nothing, fails, sets_limits, declares, sets_period, sets_order, sets_settle, tells, sends, delivers, commands, asks_energy, asks_export, asks_total, asks_board, lists, asks_meaning, marks, line_meaning}, specs.declared.script_line.LineFault.TheVariants.{DeclaredLate, PlanLimit, UnknownSite}}
-use Rattle.script_ledgers.proofs.Told.{delivered_state}
-use Rattle.script_ledgers.specs.Script.{Script, are_limits, by_meaning, commanded_to, declared_to, energy_answer, export_answer, is_among, is_past_plan, is_period, joined_by, lasting, limited_to, line_step, new_station, order_named, order_to, ordered_by, period_named, period_to, sent_to, settle_to, settled_by, settling, shown_site, site_number, start, station_named, stations_of, step_by, total_answer, script_after, list_answer}
+use Rattle.script_ledgers.{proofs.Told.delivered_state, specs.Script.{Script, are_limits, by_meaning, commanded_to, declared_to, energy_answer, export_answer, is_among, is_past_plan, is_period, joined_by, lasting, limited_to, line_step, new_station, order_named, order_to, ordered_by, period_named, period_to, sent_to, settle_to, settled_by, settling, shown_site, site_number, start, station_named, stations_of, step_by, total_answer, script_after, list_answer}}
 use Rattle.board_report.specs.Texts.{board_text}
 
 -- ---- one ledger

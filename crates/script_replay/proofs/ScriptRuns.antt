@@ -4,8 +4,7 @@ use Rattle.ledger_model.{specs.declared.command.Command.Command, specs.declared.
 use Rattle.transaction_event.specs.Message.{Meaning, Event, Ready, Silence, message}
 use Rattle.script_lines.{specs.declared.script_line.LineFault.TheVariants.{DeclaredLate, PlanLimit}, specs.Lines.Line, specs.LineMeaning.{LineMeaning, nothing, fails, sets_limits, declares, sets_period, sets_order, sets_settle, tells, sends, delivers, commands, asks_energy, asks_export, asks_total, asks_board, lists, asks_meaning, marks, line_meaning}, specs.Texts.fault_line}
 use Rattle.script_replay.{specs.Laws.{asked_by, asked_of, commanded_by, emptied, happened, sent_by, IsNoOperation, OrderChangesNoBoard, UnacceptedChangesNothing, WorldsAreRuns}, proofs.ReachedStations.{kept_from_start, same_world}}
-use Rattle.script_ledgers.proofs.Told.{delivered_state}
-use Rattle.script_ledgers.specs.Script.{KeepsSites, Script, start, are_limits, board_answer, by_meaning, commanded_to, declared_to, is_past_plan, is_period, joined_by, lasting, limited_to, line_step, order_to, ordered_by, period_to, sent_to, settle_to, settled_by, settling, site_number, station_named, step_by, script_after}
+use Rattle.script_ledgers.{proofs.Told.delivered_state, specs.Script.{KeepsSites, Script, start, are_limits, board_answer, by_meaning, commanded_to, declared_to, is_past_plan, is_period, joined_by, lasting, limited_to, line_step, order_to, ordered_by, period_to, sent_to, settle_to, settled_by, settling, site_number, station_named, step_by, script_after}}
 
 -- ---- stations without events
 

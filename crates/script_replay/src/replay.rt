@@ -13,13 +13,7 @@ use std::io::{BufRead, Write};
 
 // Replays a script over tables that J names, with what reads its events ahead. It writes the answer of each line before
 // it waits for more input; it leaves the last flush to the caller.
-pub(crate) fn replay_lines<
-    J: Naming,
-    X: AllocGlobal,
-    A: Ahead<X> + Drop,
-    R: BufRead,
-    W: Write,
->(
+pub(crate) fn replay_lines<J: Naming, X: AllocGlobal, A: Ahead<X> + Drop, R: BufRead, W: Write>(
     rt: &X,
     tables: Tables,
     ahead: A,

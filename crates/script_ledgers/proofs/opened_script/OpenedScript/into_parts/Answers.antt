@@ -1,5 +1,5 @@
 use Rattle.std.proofs.Common.{sym, ◌∙◌}
-use Rattle.script_ledgers.proofs.{Parted.{cells_of, faultless}, Passes.their_passes}
+use Rattle.script_ledgers.{proofs.Parted.{cells_of, faultless}, proofs.Passes.their_passes}
 use Rattle.script_ledgers.proofs.opened_script.OpenedScript.into_parts.Goals as goal
 
 pub returns-clause-faultless : goal.returns-clause-faultless

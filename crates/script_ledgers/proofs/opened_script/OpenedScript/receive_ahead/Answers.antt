@@ -1,6 +1,6 @@
 use Rattle.std.proofs.Common.{refl, ap}
 use Rattle.transaction_event.specs.MessageMeaning.{asking}
-use Rattle.script_ledgers.{specs.declared.detail.Detail.TheVariants.{Reply}, specs.Received.TakesMessage, specs.Script.sent_to, specs.State.script_of, proofs.Answered.{ok_told, written_whole}, proofs.Named.{is_none, is_of, received, some_of}}
+use Rattle.script_ledgers.{specs.declared.detail.Detail.TheVariants.Reply, specs.Received.TakesMessage, specs.Script.sent_to, specs.State.script_of, proofs.Answered.{ok_told, written_whole}, proofs.Named.{is_none, is_of, received, some_of}}
 use Rattle.script_ledgers.proofs.opened_script.OpenedScript.receive_ahead.Goals as goal
 
 pub returns-in-Some-clause-step : goal.returns-in-Some-clause-step
