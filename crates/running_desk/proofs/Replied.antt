@@ -140,7 +140,7 @@ replied detail gives seen places name p named moment (Event id request) outcome 
         with_content name named.place.limits s.content,
         stands_with places name p.station named s.changes s.content s.reached,
         said ∙ ap (λ (a : Answer). event_text detail a (event_reply_bytes id request.token a)) (sym s.answered)
-        ∙ event_of detail id request (with_content name named.place.limits s.content) (record start { moment = moment }),
+            ∙ event_of detail id request (with_content name named.place.limits s.content) (record start { moment = moment }),
       )
       | inr e ↦ inr (said ∙ ap (λ (a : Answer). event_text detail a (event_reply_bytes id request.token a)) e)
     ]
