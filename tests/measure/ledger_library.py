@@ -17,6 +17,7 @@ import sys
 import threading
 import time
 from collections.abc import Callable
+from functools import partial
 from pathlib import Path
 
 OK, TOO_SMALL = 0, 1
@@ -177,7 +178,7 @@ def measure(library: Library, program: str, rounds: int) -> None:
                 library.answer(script)
 
         alone = timed(call, rounds)
-        process = timed(lambda script=script: replay(program, script), min(rounds, 60))
+        process = timed(partial(replay, program, script), min(rounds, 60))
         four = THREADS * rounds / together(call_often)
         print(
             f"{messages} messages: call {alone}; process {process}; {four:,.0f} calls a second on four threads"

@@ -1,5 +1,5 @@
 -- The passes of tallies, and the looks that a settled command counts.
-use Rattle.std.{proofs.Common.{◌≡◌, ℕ, ◌≤◌, List, Some, length, map, refl, subst, ap, sym, ◌∙◌, arith}, specs.Prelude.slice_get, proofs.lemmas.List.length-map}
+use Rattle.std.{proofs.Common.{◌≡◌, ℕ, ◌≤◌, List, length, map, subst, ap, sym, ◌∙◌, arith}, specs.Prelude.slice_get, proofs.lemmas.List.length-map}
 use Rattle.ledger_model.{specs.declared.answer.Answer.Answer, specs.declared.answer.Answer.TheVariants.{Accepted, Repeat, Refused}}
 use Rattle.site_book.specs.Book.{Book}
 use Rattle.site_desk.{specs.declared.plan.SitePlan.SitePlan, specs.declared.plan.StationPlan.StationPlan, specs.Cell.{Cell, Held, Knows, Tallied, held, tally_of}}

@@ -1,6 +1,5 @@
 //! The answer to a question for what a text asks for.
 ghost use Rattle.std.specs.Prelude.{◌≡◌, ◌++◌, OnOk};
-ghost use Rattle.ledger_model.specs.Key.{KeyName};
 ghost use Rattle.script_ledgers.specs.Script.{asked_line, event_line};
 ghost use Rattle.transaction_event.specs.Message.{message};
 

@@ -1,5 +1,5 @@
 -- `deliver` in place of `msg`, and `asks`.
-use Rattle.std.{proofs.Common.{◌≡◌, ℕ, List, [], ◌∷◌, ◌++◌, Option, None, Some, refl, sym, ap, map, ◌∙◌, append_assoc}, specs.Prelude.codes}
+use Rattle.std.{proofs.Common.{◌≡◌, ℕ, List, [], ◌∷◌, ◌++◌, Option, None, Some, refl, sym, ap, ◌∙◌, append_assoc}, specs.Prelude.codes}
 use Rattle.ledger_model.{specs.declared.command.Command.TheVariants.Deliver, specs.Step.answer, specs.World.Station}
 use Rattle.script_lines.{specs.Lines.Line, specs.LineMeaning.{LineMeaning, nothing, fails, sets_limits, declares, sets_period, sets_order, sets_settle, tells, sends, delivers, commands, asks_energy, asks_export, asks_total, asks_board, lists, asks_meaning, marks, line_meaning}, specs.Texts.answer_text}
 use Rattle.script_ledgers.{specs.Script.{Script, by_meaning, delivered_to, line_step, script_after, sent_to, start, station_named, step_by, told_by}, proofs.Told.delivered_state}

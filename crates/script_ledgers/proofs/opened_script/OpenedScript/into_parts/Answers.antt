@@ -1,4 +1,3 @@
-use Rattle.std.proofs.Common.{sym, ◌∙◌}
 use Rattle.script_ledgers.{proofs.Parted.{cells_of, faultless}, proofs.Passes.their_passes}
 use Rattle.script_ledgers.proofs.opened_script.OpenedScript.into_parts.Goals as goal
 
