@@ -66,7 +66,7 @@ returns-in_err-share_row-clause-work c =
     let count = ap length (taken_more (λ t. pairs_by order d t es) ids c.loop-place.place tx at) ∙ length-append so_far (pairs_by order d tx es) in
     let own = ap (λ rs. length (followed rs)) readings in
     let both = and_then (length so_far) (length (pairs_by order d tx es)) c.args.work.now c.loop-place.work c.share_row.new.work c.loop-place.invariant.looks
-        (subst (λ n. IsWork n c.loop-place.work c.share_row.new.work) own c.share_row.ensures.work) in
+    (subst (λ n. IsWork n c.loop-place.work c.share_row.new.work) own c.share_row.ensures.work) in
     let few = flat_map-take (λ t. pairs_by order d t es) (c.loop-place.place + 1) ids in
     let all = ap (λ ts. length (flat_map (λ t. pairs_by order d t es) ts)) (kept_ids order c.args.chains.now.limits c.args.chains.now c.args.sums.now.kept c.requires.standing) in
     at_most _ _ c.args.work.now c.share_row.new.work (omega (arith, few, all, count)) both
