@@ -109,7 +109,7 @@ def make_parser(name: str, module: ModuleType | None, prog: str = COMMAND) -> Pa
             reporting.add_option(child)
             child.epilog = getattr(module, "ENDING", None)
             module.add_words(child)
-            child.set_defaults(run=module.run, prog=child.prog)
+            child.set_defaults(run=module.run, parser=child)
     return parser
 
 
@@ -147,7 +147,7 @@ def run_command(name: str, words: Sequence[str]) -> int:
     if asked.command is None:
         parser.print_help()
         return Status.DONE
-    reporting.set_up(asked.prog, asked.log_json)
+    reporting.set_up(asked.parser.prog, asked.log_json)
     return ended(lambda: asked.run(asked))
 
 

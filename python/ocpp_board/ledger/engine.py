@@ -6,7 +6,7 @@ answer is given only after the commit. A failure gives none, and the same may co
 """
 
 import re
-from collections.abc import Iterable, Iterator, Sequence
+from collections.abc import Callable, Iterable, Iterator, Sequence
 from dataclasses import dataclass, field
 from datetime import datetime, timezone
 from typing import Any, NamedTuple, Protocol
@@ -22,6 +22,7 @@ from ocpp_board.ledger.refusals import (
     describe_message,
     describe_stranger,
     describe_untaken,
+    digest_text,
     find_names,
     is_left_out,
     keep_text,
@@ -70,6 +71,7 @@ class Batch:
     # Messages of no transaction, by their places, and those that may have readings.
     replied: dict[int, Message] = field(default_factory=dict)
     others: list[Message] = field(default_factory=list)
+    mended: list[tuple[Message, Wish]] = field(default_factory=list)
 
 
 class Piece(NamedTuple):
@@ -79,16 +81,24 @@ class Piece(NamedTuple):
     works: list[Work]
 
 
-def settle(store: Database, asked: Sequence[Asked], pool: Pool | None = None) -> list[Answer]:
+def settle(
+    store: Database,
+    asked: Sequence[Asked],
+    pool: Pool | None = None,
+    also: Callable[[Database], None] | None = None,
+) -> list[Answer]:
     """Answers what is asked, in its order, once all that it changes is committed. Raises StoreError and ProgramError,
-    and then nothing has changed. `pool`: processes among which texts and transactions are parted.
+    and then nothing has changed. `pool`: processes among which texts and transactions are parted; `also`: writes what
+    is committed with the lines.
     """
     batch = Batch(asked, ask_program(asked, pool))
     sort_asked(batch)
     find_strangers(store, batch)
-    if batch.sessions or batch.refusals or batch.others:
+    if batch.sessions or batch.refusals or batch.others or batch.mended or also:
         with store.transaction():
             write_batch(store, batch, pool)
+            if also:
+                also(store)
     return [batch.answers[place] for place in range(len(asked))]
 
 
@@ -139,6 +149,8 @@ def sort_asked(batch: Batch) -> None:
             batch.sessions.setdefault((one.station, one.transaction.lower()), []).append(place)
         else:
             sort_message(batch, place, one, batch.wishes[place])
+            if one.mends:
+                batch.mended.append((one, batch.wishes[place]))
 
 
 def sort_message(batch: Batch, place: int, one: Message, wish: Wish) -> None:
@@ -205,6 +217,7 @@ def write_batch(store: Database, batch: Batch, pool: Pool | None) -> None:
         take_answers(store, batch, key, done, held[key], deeds)
     write_refusals(store, batch)
     write_strays(store, batch)
+    write_mended(store, batch)
     write_levels(store, batch, sites)
 
 
@@ -460,6 +473,25 @@ def write_strays(store: Database, batch: Batch) -> None:
         )
     if rows:
         store.execute_each(choose(store_lines.ADD_STRAY, store.kind), rows)
+
+
+def write_mended(store: Database, batch: Batch) -> None:
+    """Adds messages that were mended."""
+    rows = [
+        {
+            "station": one.station,
+            "digest": digest_text(one.came),
+            "transaction": wish.text if wish.outcome == "event" else "",
+            "number": wish.number if wish.outcome == "event" else None,
+            "at": one.received or find_names(one.text).at,
+            "mends": one.mends,
+            "came": keep_text(one.came),
+            "origin": one.origin,
+        }
+        for one, wish in batch.mended
+    ]
+    if rows:
+        store.execute_each(store_lines.ADD_MENDED, rows)
 
 
 def write_levels(store: Database, batch: Batch, sites: dict[str, str]) -> None:

@@ -358,5 +358,5 @@ def make_schema(database: SqliteDatabase | PostgresDatabase) -> None:
 
 def part_statements(text: str) -> list[str]:
     """The statements of a file, each of which ends at the end of a line, without comments."""
-    bare = re.sub(r"--[^\n]*", "", text)
+    bare = re.sub(r"('[^']*')|--[^\n]*", lambda found: found[1] or "", text)
     return [one.strip() for one in re.split(r";[ \t]*(?:\n|$)", bare) if one.strip()]

@@ -207,6 +207,19 @@ create table stray (
     last_at timestamptz,
     primary key (station, digest)
 );
+-- Messages that were mended before they were taken. `mends`: the faults; `came`: the text as the station sent it;
+-- `digest`: that of the text.
+create table mended (
+    station text not null,
+    digest text not null,
+    transaction_id text not null default '',
+    number bigint,
+    at timestamptz,
+    mends text not null,
+    came text not null,
+    origin text not null default '',
+    primary key (station, digest)
+) /*postgresql partition by hash (station)*/;
 -- Every operator's line with its answer. `at`: when it came, or 2000-01-01 where its source has no time.
 create table deed (
     station text not null,

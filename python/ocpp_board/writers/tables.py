@@ -7,7 +7,7 @@
     SITE/operator.csv       the operators' lines with who, when, why, and the answer
     SITE/mended.csv         the messages that were mended
     SITE/signed/            the first and the last signed value of each transaction that has some
-    strays.csv              messages of stations that no site has
+    refused.csv             messages of stations that no site has, and lines that name no station
 
 A table of a day (`SITE/2026-03-01.periods.csv`) has the rows of that day of the site's zone. A file is there whole or
 not at all.
@@ -34,7 +34,6 @@ from ocpp_board.messages.bills import (
     token_cell,
     write_signed,
 )
-from ocpp_board.messages.named import find_named
 from ocpp_board.store.database import Database, Row
 from ocpp_board.writers.calendar import MOMENT, Calendar, find_calendar
 from ocpp_board.writers.files import name_file
@@ -69,6 +68,7 @@ REFUSED = [
 ]
 OPERATOR = ["time (UTC)", "who", "what", "site", "station", "transaction", "seqNo", "why", "answer"]
 MENDED = ["time (UTC)", "site", "station", "transaction", "seqNo", "mended", "as it came"]
+REFUSED_ORDER = "order by first_at, station, sent_id, number, cause, what"
 KINDS = {kind.label: kind for kind in Kind}
 # The places of the kinds of findings: by what they do to figures, the gravest first, and by the kind.
 EFFECTS = [*Effect]
@@ -162,25 +162,12 @@ class TableWriter:
         return 3 + one.write_refused() + one.write_operator() + one.write_mended()
 
     def write_strays(self) -> int:
-        """Writes the messages of stations that no site has, where there are some, and gives whether there are."""
+        """Writes what was refused of no site, where there is some, and gives whether there is."""
         rows = self.store.fetch(
-            "select station, site, text, times, first_at, last_at from stray "
-            "order by first_at, station, digest"
+            f"select * from refused where site not in (select site from site) {REFUSED_ORDER}"
         )
-        return write_some(self.out / "strays.csv", REFUSED, map(self.write_stray, rows))
-
-    def write_stray(self, row: Row) -> list[Cell]:
-        """The cells of a message of a station that no site has."""
-        named = find_named(row.text)
-        advice = "add the station to the plan, or name it in the file of stations"
-        texts = (row.site, row.station, named.transaction, named.number, "UnknownStation")
-        what = f"no site has the station {row.station}"
-        front: list[Cell] = [write_utc(row.first_at), write_utc(row.last_at), row.times]
-        return front + [self.cell(text) for text in (*texts, what, advice)]
-
-    def cell(self, text: str) -> str:
-        """A text from outside: a name, an id or a reason."""
-        return text if self.options.raw else csv_cell(text)
+        cells = (write_refusal(row, self.options.raw) for row in rows)
+        return write_some(self.out / "refused.csv", REFUSED, cells)
 
 
 def write_utc(at: datetime | None) -> str:
@@ -478,18 +465,10 @@ class SiteTables:
     def write_refused(self) -> int:
         """Writes the table of what was refused, where there is some, and gives whether there is. Raises OSError."""
         rows = self.store.fetch(
-            "select * from refused where site = :site "
-            "order by first_at, station, transaction_id, number, cause, what",
-            site=self.site.site,
+            f"select * from refused where site = :site {REFUSED_ORDER}", site=self.site.site
         )
-        return write_some(self.path("refused"), REFUSED, map(self.write_refusal, rows))
-
-    def write_refusal(self, row: Row) -> list[Cell]:
-        """The cells of what was refused."""
-        number = "" if row.number is None else str(row.number)
-        texts = (row.site, row.station, row.transaction_id, number, row.cause, row.what, row.advice)
-        front: list[Cell] = [write_utc(row.first_at), write_utc(row.last_at), row.times]
-        return front + [self.cell(text) for text in texts]
+        cells = (write_refusal(row, self.options.raw) for row in rows)
+        return write_some(self.path("refused"), REFUSED, cells)
 
     def write_operator(self) -> int:
         """Writes the table of operators' lines, where there are some, and gives whether there are. Raises OSError."""
@@ -533,6 +512,14 @@ def rank_finding(row: Row) -> tuple[int, int, str, bool, str, int]:
     effect = EFFECTS.index(KINDS[row.kind].effect)
     is_stations = not row.transaction_id
     return effect, row.place, row.station, is_stations, row.transaction_id, ORDER[row.kind]
+
+
+def write_refusal(row: Row, raw: bool) -> list[Cell]:
+    """The cells of what was refused."""
+    texts = (row.site, row.station, row.sent_id, row.sent_number or "")
+    front: list[Cell] = [write_utc(row.first_at), write_utc(row.last_at), row.times]
+    words = (*texts, row.cause, row.what, row.advice)
+    return front + [text if raw else csv_cell(text) for text in words]
 
 
 def read_signed(text: str) -> list[Signed]:
