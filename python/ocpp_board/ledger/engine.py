@@ -22,6 +22,7 @@ from ocpp_board.ledger.refusals import (
     describe_message,
     describe_stranger,
     describe_untaken,
+    digest_text,
     find_names,
     is_left_out,
     keep_text,
@@ -97,7 +98,6 @@ def settle(
     if batch.sessions or batch.refusals or batch.others or batch.mended or also:
         with store.transaction():
             write_batch(store, batch, pool)
-            write_mended(store, batch)
             if also:
                 also(store)
     return [batch.answers[place] for place in range(len(asked))]
@@ -218,6 +218,7 @@ def write_batch(store: Database, batch: Batch, pool: Pool | None) -> None:
         take_answers(store, batch, key, done, held[key], deeds)
     write_refusals(store, batch)
     write_strays(store, batch)
+    write_mended(store, batch)
     write_levels(store, batch, sites)
 
 
@@ -476,17 +477,14 @@ def write_strays(store: Database, batch: Batch) -> None:
 
 
 def write_mended(store: Database, batch: Batch) -> None:
-    """Adds messages that were mended, as they came."""
-    statement = """insert into mended (station, digest, at, transaction_id, number, mends, came, origin)
-    values (:station, :digest, :at, :transaction, :number, :mends, :came, :origin)
-    on conflict (station, digest, at) do nothing"""
+    """Adds messages that were mended."""
     rows = [
         {
             "station": one.station,
-            "digest": Refusal("", "", "", "", "", one.came, None).digest,
-            "at": one.received or FIRST_MOMENT,
+            "digest": digest_text(one.came),
             "transaction": wish.text if wish.outcome == "event" else "",
             "number": wish.number if wish.outcome == "event" else None,
+            "at": one.received or find_names(one.text).at,
             "mends": one.mends,
             "came": keep_text(one.came),
             "origin": one.origin,
@@ -494,7 +492,7 @@ def write_mended(store: Database, batch: Batch) -> None:
         for one, wish in batch.mended
     ]
     if rows:
-        store.execute_each(statement, rows)
+        store.execute_each(store_lines.ADD_MENDED, rows)
 
 
 def write_levels(store: Database, batch: Batch, sites: dict[str, str]) -> None:
