@@ -14,7 +14,7 @@ import pytest
 
 from ocpp_board.errors import StoreError
 from ocpp_board.ledger.engine import change_site, settle, take_strays
-from ocpp_board.records import Limits, Message, Rules, Untaken
+from ocpp_board.records import Asked, Limits, Message, Rules, Untaken
 from ocpp_board.store.database import Database, open_store
 from ocpp_board.store.plan import retire_station, write_station
 from tests.store.scene import (
@@ -88,7 +88,7 @@ def test_repeats_change_no_row(store: Database) -> None:
 def test_one_by_one_is_as_at_once(store: Database) -> None:
     """Lines that come one by one leave what they leave at once."""
     plan(store)
-    lines = [
+    lines: list[Asked] = [
         *write_session("CS-01", "T1", 6),
         deed("void", "CS-01", "T1", 2),
         message("CS-01", write_event("T1", 2, "Updated", 99)),
@@ -349,13 +349,16 @@ def test_what_commits_beside_it(store: Database) -> None:
         note(store)
         raise StoreError("the disk is full")
 
+    def forget(store: Database) -> None:
+        store.execute("delete from source")
+
     lines = list(write_session("CS-01", "T1", 2))
     with pytest.raises(StoreError):
         settle(store, lines, also=fail)
     assert not store.fetch("select * from line") and not store.fetch("select * from source")
     settle(store, lines, also=note)
     assert store.fetch("select place from source")[0].place == 7
-    settle(store, [], also=lambda store: store.execute("delete from source") and None)
+    settle(store, [], also=forget)
     assert not store.fetch("select * from source")
 
 

@@ -46,8 +46,8 @@ class Program(Protocol):
 
 
 def encode_text(text: str) -> bytes | Wish:
-    """The bytes of a station's text as a line of a script has it; else the fault of one that no UTF-8 writes, or that no
-    line has room for."""
+    """The bytes of a station's text as a line of a script has it; else the fault of one that no UTF-8 writes, or that
+    no line has room for."""
     try:
         data = one_line(text).encode("utf-8")
     except UnicodeEncodeError:
