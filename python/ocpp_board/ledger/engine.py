@@ -68,7 +68,7 @@ class Batch:
     sessions: dict[Key, list[int]] = field(default_factory=dict)
     refusals: list[tuple[Asked, Refusal, str]] = field(default_factory=list)
     strays: list[tuple[Message, Wish]] = field(default_factory=list)
-    # Messages of no transaction, by their places, and those that may have readings.
+    # Messages of no transaction, by their places, and those of them that may have readings.
     replied: dict[int, Message] = field(default_factory=dict)
     others: list[Message] = field(default_factory=list)
     # Messages that were mended, each with what it asks for.
@@ -159,6 +159,7 @@ def sort_message(batch: Batch, place: int, one: Message, wish: Wish) -> None:
     if wish.outcome == "event":
         batch.sessions.setdefault((one.station, wish.text), []).append(place)
         return
+    batch.replied[place] = one
     if wish.outcome == "silent":
         batch.answers[place] = Answer("silent")
         return
@@ -167,8 +168,6 @@ def sort_message(batch: Batch, place: int, one: Message, wish: Wish) -> None:
         batch.answers[place] = Answer("reply", "", wish.text)
         if '"MeterValues"' in one.text:
             batch.others.append(one)
-        else:
-            batch.replied[place] = one
         return
     reply = None if wish.outcome == "fault" else wish.text
     if is_left_out(one.text, cause):
@@ -181,12 +180,21 @@ def sort_message(batch: Batch, place: int, one: Message, wish: Wish) -> None:
 
 def find_strangers(store: Database, batch: Batch) -> None:
     """Notes messages of no transaction that are of stations that no site has."""
-    stations = sorted({one.station for one in batch.replied.values()})
-    sites = store_lines.find_sites(store, stations)
+    stations = {one.station for one in batch.replied.values()}
+    strangers = stations - store_lines.find_sites(store, sorted(stations)).keys()
+    if not strangers:
+        return
+    batch.refusals = [
+        one
+        for one in batch.refusals
+        if isinstance(one[0], Untaken) or one[0].station not in strangers
+    ]
+    kept = {id(one) for one in batch.others}
     for place, one in batch.replied.items():
-        if one.station not in sites:
-            batch.refusals.append((one, describe_stranger(one), ""))
+        if one.station in strangers:
             batch.answers[place] = Answer("stray", UNKNOWN_STATION, batch.answers[place].reply)
+            if id(one) not in kept:
+                batch.refusals.append((one, describe_stranger(one), ""))
 
 
 # Writing -------------------------------------------------------------------------------------------------------------
