@@ -9,7 +9,8 @@ from collections.abc import Callable, Sequence
 from ocpp_board.ledger.engine import settle
 from ocpp_board.messages.texts import Refused
 from ocpp_board.records import Message
-from ocpp_board.store.database import Database, is_away, open_store
+from ocpp_board.store.database import Database, open_store
+from ocpp_board.store.faults import is_away
 
 log = logging.getLogger(__name__)
 

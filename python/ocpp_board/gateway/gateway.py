@@ -43,6 +43,8 @@ AHEAD = 4
 READ, WRITE = 16_384, 65_536
 # Seconds between pings to a station, and for its pong.
 PING = 300
+# Seconds for connections to end in, at the end.
+LAST = 5
 # Connections that wait to be accepted.
 BACKLOG = 4096
 
@@ -86,6 +88,7 @@ class Gateway:
         self.counts = Counter[str]()
         self.repeated = Repeated()
         self.jobs: set[asyncio.Task[Any]] = set()
+        self.is_ending = asyncio.Event()
         # When the event loop ran last.
         self.ran = time.monotonic()
 
@@ -160,10 +163,12 @@ class Gateway:
 
     async def look_again(self, station: str) -> None:
         """Ends a station's connection where it could not come in any more."""
-        try:
-            known: Known = await self.find(station)
-        except StoreError:
-            return  # What is not known ends nothing; a later look has the change, too.
+        while True:
+            try:
+                known: Known = await self.find(station)
+                break
+            except StoreError:
+                await asyncio.sleep(1)
         own = self.door.hash_in_use(station)
         if not known.is_planned:
             self.end(station, "the station is retired")
@@ -191,10 +196,13 @@ class Gateway:
                 await asyncio.sleep(0.2)
 
     async def run(self) -> None:
-        """Serves until a job fails. Raises UsageError."""
+        """Serves until a signal ends it or a job fails. Raises UsageError."""
         if self.options.open:
             log.warning("--open: each station of the plan is let in without a password")
-        asyncio.get_running_loop().add_signal_handler(signal.SIGHUP, self.certificates.read_again)
+        loop = asyncio.get_running_loop()
+        loop.add_signal_handler(signal.SIGHUP, self.certificates.read_again)
+        for number in (signal.SIGTERM, signal.SIGINT):
+            loop.add_signal_handler(number, self.is_ending.set)
         serve_figures(self.options.metrics, self)
         await self.wait_for_store()
         context = self.certificates.first
@@ -224,9 +232,16 @@ class Gateway:
             place = f"{self.options.host}:{self.options.port}"
             raise UsageError(f"{place}: {fault.strerror or fault}; choose another --port") from None
         print(f"listening {self.options.host}:{server.sockets[0].getsockname()[1]}", flush=True)
-        async with asyncio.TaskGroup() as jobs:
-            for job in (self.lanes.run, self.finder.run, self.lookout.run, self.tick):
-                jobs.create_task(job())
+        async with asyncio.TaskGroup() as group:
+            jobs = [
+                group.create_task(job())
+                for job in (self.lanes.run, self.finder.run, self.lookout.run, self.tick)
+            ]
+            await self.is_ending.wait()
+            server.close()  # Stations go away with close code 1001, and come again elsewhere.
+            await asyncio.wait([asyncio.ensure_future(server.wait_closed())], timeout=LAST)
+            for job in jobs:
+                job.cancel()
 
 
 def use_uvloop() -> None:

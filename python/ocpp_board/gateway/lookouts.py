@@ -14,7 +14,8 @@ from ocpp_board.errors import StoreError
 from ocpp_board.gateway.door import Known
 from ocpp_board.gateway.passwords import Password
 from ocpp_board.store import stations
-from ocpp_board.store.database import Database, is_away, open_store
+from ocpp_board.store.database import Database, open_store
+from ocpp_board.store.faults import is_away
 
 log = logging.getLogger(__name__)
 

@@ -15,7 +15,8 @@ from typing import Any, BinaryIO
 from ocpp_board.gateway.lanes import HEAD, Fate
 from ocpp_board.ledger.engine import settle
 from ocpp_board.records import Answer, Message
-from ocpp_board.store.database import Database, is_away, open_store
+from ocpp_board.store.database import Database, open_store
+from ocpp_board.store.faults import is_away
 
 # What a station gets for a line that the ledger could not take.
 FAULT = '[4,"-1","InternalError","{}",{{}}]'
