@@ -9,7 +9,7 @@ from pathlib import Path
 
 import pytest
 
-from ocpp_board.gateway.passwords import make_password
+from ocpp_board.passwords import make_password
 from ocpp_board.store.database import open_store
 from tests.gateway.client import PASSWORD
 from tests.gateway.cluster import Cluster, keep_cluster

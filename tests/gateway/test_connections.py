@@ -10,6 +10,7 @@ from websockets.exceptions import ConnectionClosed
 
 from ocpp_board.store import stations
 from ocpp_board.store.database import open_store
+from ocpp_board.store.plan import Author, retire_station
 from tests.gateway.client import (
     PASSWORD,
     ask,
@@ -176,7 +177,7 @@ def test_a_password_changes_while_the_station_is_connected(make_store: Make) -> 
     async def play(url: str) -> None:
         station = await connect_station(url, "CS-0")
         with open_store(name) as store:
-            stations.set_password(store, "CS-0", new, "jo", "it is due")
+            stations.set_password(store, "CS-0", new, Author("jo", "it is due"))
         await asyncio.sleep(1.5)
         assert await ask(station, make_event("t", 0)) == '[3,"t-0",{}]'
         assert await find_status(url, "CS-0", PASSWORD) == 101
@@ -184,7 +185,8 @@ def test_a_password_changes_while_the_station_is_connected(make_store: Make) -> 
         assert await find_status(url, "CS-0", PASSWORD) == 401
         station = await connect_station(url, "CS-0", new)
         with open_store(name) as store:
-            stations.set_password(store, "CS-0", PASSWORD, "jo", "it is known", at_once=True)
+            author = Author("jo", "it is known")
+            stations.set_password(store, "CS-0", PASSWORD, author, at_once=True)
         assert await wait_for_close(station, 5) == 1008
         assert await find_status(url, "CS-0", new) == 401
         assert await find_status(url, "CS-0", PASSWORD) == 101
@@ -205,8 +207,8 @@ def test_a_retired_station_goes_and_stays_away(make_store: Make) -> None:
 
     async def play(url: str) -> None:
         station = await connect_station(url, "CS-0")
-        with open_store(name) as store:
-            stations.retire_station(store, "CS-0", "jo", "it was sold")
+        with open_store(name) as store, store.transaction():
+            retire_station(store, "CS-0", Author("jo", "it was sold"))
         assert await wait_for_close(station, 5) == 1008
         assert await find_status(url, "CS-0") == 401
 

@@ -13,7 +13,8 @@ from enum import Enum
 from typing import NamedTuple
 
 from ocpp_board.errors import StoreError
-from ocpp_board.gateway.passwords import MOST_KEPT, Given, Password, match_password
+from ocpp_board.gateway.basic import Given
+from ocpp_board.passwords import MOST_KEPT, Password, match_password
 from ocpp_board.gateway.tries import FREE, Places, Tries, Turns, find_network
 
 log = logging.getLogger(__name__)

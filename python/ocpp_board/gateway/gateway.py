@@ -20,7 +20,7 @@ from ocpp_board.gateway.door import Door, Known
 from ocpp_board.gateway.lanes import Lanes
 from ocpp_board.gateway.lookouts import Clerk, Finder, Lookout, Served
 from ocpp_board.gateway.metrics import Repeated, serve_figures
-from ocpp_board.gateway.passwords import Password
+from ocpp_board.passwords import Password
 from ocpp_board.gateway.station_socket import (
     HANDSHAKE,
     NORMAL,

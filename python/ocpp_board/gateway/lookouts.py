@@ -12,7 +12,7 @@ from typing import Any, NamedTuple, TypeVar
 
 from ocpp_board.errors import StoreError
 from ocpp_board.gateway.door import Known
-from ocpp_board.gateway.passwords import Password
+from ocpp_board.passwords import Password
 from ocpp_board.store import stations
 from ocpp_board.store.database import Database, open_store
 from ocpp_board.store.faults import is_away

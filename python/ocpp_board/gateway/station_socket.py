@@ -17,7 +17,7 @@ from ocpp_board.errors import StoreError
 from ocpp_board.gateway.door import Verdict
 from ocpp_board.gateway.lanes import TooLate
 from ocpp_board.gateway.pace import Pace
-from ocpp_board.gateway.passwords import read_password
+from ocpp_board.gateway.basic import read_password
 from ocpp_board.gateway.tries import find_address
 from ocpp_board.limits import LONGEST_MESSAGE, is_name
 

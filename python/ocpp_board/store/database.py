@@ -18,6 +18,11 @@ from ocpp_board.errors import StoreError, UsageError
 
 HERE = Path(__file__).parent
 VERSION = 1
+# The files of the schema.
+SOURCES = (
+    *("schema.sql", "days.sql", "gateway.sql"),
+    *("views.sql", "finding_views.sql", "days_views.sql"),
+)
 # How many partitions PostgreSQL's tables by station have.
 PARTITIONS = 16
 # Seconds that a writer waits for another one.
@@ -325,11 +330,7 @@ def has_table(database: Database) -> bool:
 
 def list_sources() -> list[Path]:
     """The files of the schema: tables, then views."""
-    return [
-        path
-        for path in map(HERE.joinpath, ("schema.sql", "views.sql", "finding_views.sql"))
-        if path.exists()
-    ]
+    return [path for path in map(HERE.joinpath, SOURCES) if path.exists()]
 
 
 def make_schema(database: SqliteDatabase | PostgresDatabase) -> None:

@@ -189,6 +189,7 @@ def retire_station(store: Database, station: str, author: Author, where: str = "
             station=station,
             now=datetime.now(timezone.utc),
         )
+        store.execute("delete from password where station = :station", station=station)
         before, after = ({"site": had.site, "retired": is_retired} for is_retired in (False, True))
         note_change(store, author, "station", station, json.dumps(before), json.dumps(after))
 

@@ -6,8 +6,9 @@ from datetime import datetime, timedelta, timezone
 from functools import lru_cache
 
 from ocpp_board.errors import InputError
-from ocpp_board.gateway.passwords import make_password
+from ocpp_board.passwords import find_mistake, make_password
 from ocpp_board.store.database import Database, choose
+from ocpp_board.store.plan import Author, note_change
 
 # How long looks look back: for connections, whose moments are those of the database and are written at once, and for
 # changes of the plan, whose moments may be those of another machine.
@@ -104,18 +105,6 @@ def look_for_changes(
     )
 
 
-def write_change(
-    store: Database, what: str, name: str, who: str, why: str, before: str = "", after: str = ""
-) -> None:
-    """Writes who changed what, and why. `before` and `after` are JSON without secrets."""
-    store.execute(
-        "insert into change (at, who, why, what, name, before_text, after_text) "
-        "values (:at, :who, :why, :what, :name, :before, :after)",
-        **{"at": now(), "who": who, "why": why, "what": what, "name": name},
-        **{"before": before, "after": after},
-    )
-
-
 def count_passwords(store: Database, station: str) -> str:
     """How many passwords a station has, as JSON."""
     (row,) = store.fetch("select count(*) as n from password where station = :station", station=station)
@@ -127,15 +116,17 @@ def require_station(store: Database, station: str) -> None:
     row = store.fetch_one("select until from station where station = :station", station=station)
     if row is None or row.until is not None:
         raise InputError(
-            f"the plan has no station {station!r}; add it by `ocpp-board plan station SITE {station}`"
+            f"the plan has no station {station!r}; add it by `ocpp-board plan`"
         )
 
 
 def set_password(
-    store: Database, station: str, password: str, who: str, why: str, at_once: bool = False
+    store: Database, station: str, password: str, author: Author, at_once: bool = False
 ) -> None:
     """Sets a station's password. What the station came with last stays good until it comes with this one; with `at_once`
     it ends now. Raises InputError."""
+    if mistake := find_mistake(password):
+        raise InputError(f"{station}: {mistake}")
     made = make_password(password)
     with store.transaction():
         require_station(store, station)
@@ -150,17 +141,4 @@ def set_password(
             "insert into password (station, hash, salt, cost, set_at) values (:station, :hash, :salt, :cost, :at)",
             **{"station": station, "hash": made.hash, "salt": made.salt, "cost": made.cost, "at": now()},
         )
-        write_change(
-            store, "password", station, who, why, before, count_passwords(store, station)
-        )
-
-
-def retire_station(store: Database, station: str, who: str, why: str) -> None:
-    """Retires a station: its messages are strays from then on, its lines stay. Raises InputError."""
-    with store.transaction():
-        require_station(store, station)
-        at = now()
-        store.execute("update station set until = :at where station = :station", station=station, at=at)
-        store.execute("delete from password where station = :station", station=station)
-        after = json.dumps({"until": at.isoformat(timespec="seconds")})
-        write_change(store, "station", station, who, why, "{}", after)
+        note_change(store, author, "password", station, before, count_passwords(store, station))

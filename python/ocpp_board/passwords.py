@@ -1,13 +1,10 @@
 """Passwords of stations: HTTP Basic by salted hashes (OCPP 2.0.1 Part 2, A.1.3, security profiles 1 and 2)."""
 
-import base64
 import hashlib
 import hmac
 import secrets
 from collections.abc import Sequence
 from typing import NamedTuple
-
-from websockets.datastructures import Headers
 
 # Characters that a password has (OCPP 2.0.1 Part 2, BasicAuthPassword).
 SHORTEST, LONGEST = 16, 40
@@ -59,27 +56,3 @@ def match_password(given: bytes, known: Sequence[Password]) -> Password | None:
     for _ in range(len(known), MOST_KEPT):
         hash_password(given, bytes(SALT))
     return None
-
-
-class Given(NamedTuple):
-    """What a station came with: whether it said Basic at all, and its password, where the user is its own name."""
-
-    is_basic: bool
-    password: bytes | None
-
-
-def read_password(headers: Headers, station: str) -> Given:
-    """What the header `Authorization` says; it is removed, since a request lives as long as its connection."""
-    values = headers.get_all("Authorization")
-    if not values:
-        return Given(False, None)
-    del headers["Authorization"]
-    scheme, _, text = values[0].partition(" ")
-    try:
-        pair = base64.b64decode(text.strip(), validate=True)
-    except ValueError:
-        pair = b""
-    # A station's name may have a colon, so the first one does not end the user's name.
-    user = f"{station}:".encode()
-    is_own = len(values) == 1 and scheme.lower() == "basic" and pair.startswith(user)
-    return Given(True, pair[len(user) :] if is_own else None)
