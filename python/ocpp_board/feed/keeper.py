@@ -6,11 +6,11 @@ import time
 from collections import Counter
 from collections.abc import Callable, Sequence
 
+from ocpp_board.errors import StoreAway
 from ocpp_board.ledger.engine import settle
 from ocpp_board.messages.texts import Refused
 from ocpp_board.records import Message
 from ocpp_board.store.database import Database, open_store
-from ocpp_board.store.faults import is_away
 
 log = logging.getLogger(__name__)
 
@@ -63,12 +63,10 @@ class Keeper:
                 if self.store is None:
                     self.store = open_store(self.address)
                 answers = settle(self.store, messages)
-            except Exception as fault:
+            except StoreAway as fault:
                 store, self.store = self.store, None
                 if store:
                     store.close()
-                if not is_away(fault):
-                    raise
                 self.log_once(f"{fault}; tried again and again")
                 if self.is_ending.is_set():
                     raise Stopped from None

@@ -15,7 +15,6 @@ from ocpp_board.gateway.door import Known
 from ocpp_board.passwords import Password
 from ocpp_board.store import stations
 from ocpp_board.store.database import Database, open_store
-from ocpp_board.store.faults import is_away
 
 log = logging.getLogger(__name__)
 
@@ -54,14 +53,12 @@ class Clerk:
             if self.store is None:
                 self.store = open_store(self.address)
             found = job(self.store, *words)
-        except Exception as fault:
+        except StoreError:
+            self.is_up = False
             store, self.store = self.store, None
             if store:
                 store.close()
-            if not is_away(fault):
-                raise
-            self.is_up = False
-            raise StoreError(str(fault)) from fault
+            raise
         self.is_up = True
         return found
 

@@ -12,11 +12,11 @@ import time
 import traceback
 from typing import Any, BinaryIO
 
+from ocpp_board.errors import StoreAway
 from ocpp_board.gateway.lanes import HEAD, Fate
 from ocpp_board.ledger.engine import settle
 from ocpp_board.records import Answer, Message
 from ocpp_board.store.database import Database, open_store
-from ocpp_board.store.faults import is_away
 
 # What a station gets for a line that the ledger could not take.
 FAULT = '[4,"-1","InternalError","{}",{{}}]'
@@ -35,7 +35,7 @@ class Desk:
         self.store: Database | None = None
 
     def settle(self, asked: list[Message]) -> list[Answer]:
-        """The answers to these messages, once what they change is stored. Raises what the database raises."""
+        """The answers to these messages, once what they change is stored. Raises StoreError."""
         if self.store is None:
             self.store = open_store(self.address)
         try:
@@ -50,9 +50,9 @@ class Desk:
         began = time.process_time()
         try:
             answers = self.settle([Message(*request) for request in requests])
+        except StoreAway as fault:
+            return Fate.AWAY.value, [], str(fault)
         except Exception as fault:
-            if is_away(fault):
-                return Fate.AWAY.value, [], " ".join(str(fault).split())
             why = "".join(traceback.format_exception(fault))
             return Fate.FAILED.value, [], why
         rows = [(one.outcome, one.name, make_reply(one)) for one in answers]

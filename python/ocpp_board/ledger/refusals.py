@@ -136,7 +136,7 @@ def describe_untaken(one: Untaken) -> Refusal:
     """A line of a source that was not taken."""
     number = "" if one.number is None else str(one.number)
     return Refusal(
-        UNTAKEN, one.what, one.advice, one.transaction, number, keep_text(one.text), one.received
+        one.cause, one.what, one.advice, one.transaction, number, keep_text(one.text), one.received
     )
 
 
