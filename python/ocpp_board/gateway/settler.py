@@ -17,6 +17,7 @@ from ocpp_board.gateway.lanes import HEAD, Fate
 from ocpp_board.ledger.engine import settle
 from ocpp_board.records import Answer, Message
 from ocpp_board.store.database import Database, open_store
+from ocpp_board.store.lines import Warm
 
 # What a station gets for a line that the ledger could not take.
 FAULT = '[4,"-1","InternalError","{}",{{}}]'
@@ -33,13 +34,14 @@ class Desk:
     def __init__(self, address: str) -> None:
         self.address = address
         self.store: Database | None = None
+        self.warm = Warm()
 
     def settle(self, asked: list[Message]) -> list[Answer]:
         """The answers to these messages, once what they change is stored. Raises StoreError."""
         if self.store is None:
             self.store = open_store(self.address)
         try:
-            return settle(self.store, asked)
+            return settle(self.store, asked, warm=self.warm)
         except BaseException:
             store, self.store = self.store, None
             store.close()
