@@ -101,8 +101,9 @@ def settle(
             kept = write_batch(store, batch, pool, warm)
             if also:
                 also(store)
-        for key, one in kept.items() if warm else ():
-            warm.keep(key, one)
+        if warm is not None:
+            for key, one in kept.items():
+                warm.keep(key, one)
     return [batch.answers[place] for place in range(len(asked))]
 
 

@@ -317,7 +317,7 @@ class Writer:
                         getattr(row, columns[0]): tuple(getattr(row, name) for name in columns)
                         for row in had[key]
                     }
-            own = {key: one[place] for key, one in self.rows.items()}
+            own = {key: one[1] if place == 1 else one[2] for key, one in self.rows.items()}
             write_differences(self.store, table, columns, before, own)
         if self.empty:
             delete_each(self.store, "session", self.empty)
