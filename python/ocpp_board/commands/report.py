@@ -53,7 +53,7 @@ from ocpp_board.sources.forms import Shape, choose_shape
 from ocpp_board.sources.lines import FORMS as WORDS
 from ocpp_board.sources.log import LogReader
 from ocpp_board.sources.script import Declaration, ScriptReader
-from ocpp_board.sources.stations import StationPlan, add_rules, add_sites, add_utc, choose_plan
+from ocpp_board.sources.stations import OpenPlan, StationPlan, add_rules, add_sites, add_utc, choose_plan
 from ocpp_board.statuses import Status
 from ocpp_board.store.database import Database, open_store
 from ocpp_board.store.plan import Author
@@ -254,7 +254,7 @@ class Report:
     def __init__(self, options: Options, store: Database, pool: Pool | None) -> None:
         """Raises OSError and UsageError."""
         self.options, self.store, self.meter = options, store, Meter()
-        self.plan = StationPlan(options.wanted.plan)
+        self.plan = OpenPlan(options.wanted.plan)
         author = Author("report", f"read from {', '.join(options.logs)}"[:200])
         self.loader = Loader(store, options.wanted, author, pool)
         # Stations that the store has stay where they are.
