@@ -18,7 +18,7 @@ from ocpp_board.writers.pages.cells import (
     write_kw,
 )
 from ocpp_board.writers.pages.context import Context, find_peak
-from ocpp_board.writers.pages.facts import DaySum, Period, Session, Site
+from ocpp_board.writers.pages.facts import DaySum, Period, SessionFacts, Site
 from ocpp_board.writers.pages.lanes import MOST_LANES, draw_lanes, group_lanes
 from ocpp_board.writers.pages.month_pages import make_day_columns, write_peak
 from ocpp_board.writers.pages.pictures import Scale, draw_day
@@ -117,8 +117,10 @@ def make_station_rows(
     return rows
 
 
-def make_day_page(context: Context, site: Site, day: date, number: int = 1) -> Markup:
-    """Makes the page of a day of a site. `number`: that of the page of its stations."""
+def make_day_page(
+    context: Context, site: Site, day: date, number: int = 1
+) -> tuple[Markup, int]:
+    """Makes the page of a day of a site, and says how many stations it has. `number`: that of the page of these."""
     calendar = context.calendar(site)
     begin, end = calendar.begin(day), calendar.end(day)
     periods = context.book.read_periods(site, None, begin, end)
@@ -129,7 +131,7 @@ def make_day_page(context: Context, site: Site, day: date, number: int = 1) -> M
     sessions = context.reader.day_sessions(site.name, begin, end)
     lanes = group_lanes(sessions)
     label = f"Sessions of site {site.name} on {day} by EVSE: {len(sessions):,}. The table has the stations."
-    return context.render(
+    page = context.render(
         "day.html",
         f"Site {site.name},",
         calendar,
@@ -143,12 +145,13 @@ def make_day_page(context: Context, site: Site, day: date, number: int = 1) -> M
         more_lanes=max(0, len(lanes) - MOST_LANES),
         columns=make_day_columns("Station", exports, 1),
         rows=make_station_rows(context, site, day, shown, exports),
-        pages=link_pages(context, site, day, number, len(sums)),
+        pages=link_pages(context, site, day, len(sums)),
         number=number,
     )
+    return page, len(sums)
 
 
-def link_pages(context: Context, site: Site, day: date, number: int, count: int) -> list[str]:
+def link_pages(context: Context, site: Site, day: date, count: int) -> list[str]:
     """The addresses of the pages of a day with so many stations; none where one page has all."""
     pages = -(-count // MOST_STATIONS)
     return [context.links.day(site.name, None, day, one + 1) for one in range(pages) if pages > 1]
@@ -156,7 +159,7 @@ def link_pages(context: Context, site: Site, day: date, number: int, count: int)
 
 def list_day_sessions(
     context: Context, site: Site, station: str, day: date
-) -> list[Session]:
+) -> list[SessionFacts]:
     """Lists the sessions of a station on a day."""
     calendar = context.calendar(site)
     return context.reader.day_sessions(

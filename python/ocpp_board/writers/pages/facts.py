@@ -53,7 +53,7 @@ class Found(NamedTuple):
     detail: str
 
 
-class Session(NamedTuple):
+class SessionFacts(NamedTuple):
     """A transaction as the store has it."""
 
     station: str
@@ -122,7 +122,6 @@ class RefusedText(NamedTuple):
     cause: str
     what: str
     advice: str
-    text: str
     times: int
     first_at: datetime | None
     last_at: datetime | None

@@ -1,6 +1,6 @@
 """What findings and states mean, and which of them are grave."""
 
-from ocpp_board.reports.quality import Effect, Kind
+from ocpp_board.ledger.findings import Effect, Kind
 
 KINDS = {kind.label: kind for kind in Kind}
 # What the states of sessions that are not complete mean, by how they begin.

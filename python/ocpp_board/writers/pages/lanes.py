@@ -8,7 +8,7 @@ from markupsafe import Markup
 
 from ocpp_board.energies import kwh
 from ocpp_board.writers.calendar import Calendar
-from ocpp_board.writers.pages.facts import Session
+from ocpp_board.writers.pages.facts import SessionFacts
 from ocpp_board.writers.pages.links import Links
 from ocpp_board.writers.pages.pictures import UNIT, Text, list_hours, shorten, write_hours
 from ocpp_board.writers.pages.render import render
@@ -23,12 +23,12 @@ class Lane(NamedTuple):
     """An EVSE of a station with its sessions of a day."""
 
     name: str
-    sessions: list[Session]
+    sessions: list[SessionFacts]
 
 
-def group_lanes(sessions: Iterable[Session]) -> list[Lane]:
+def group_lanes(sessions: Iterable[SessionFacts]) -> list[Lane]:
     """Groups the sessions of a day by station and EVSE."""
-    found: dict[tuple[str, int], list[Session]] = {}
+    found: dict[tuple[str, int], list[SessionFacts]] = {}
     for session in sessions:
         found.setdefault((session.station, session.evse), []).append(session)
     return [
@@ -37,7 +37,7 @@ def group_lanes(sessions: Iterable[Session]) -> list[Lane]:
     ]
 
 
-def describe_session(session: Session, calendar: Calendar) -> str:
+def describe_session(session: SessionFacts, calendar: Calendar) -> str:
     """Describes a session in one line."""
     assert session.first_at and session.last_at
     first, last = calendar.local(session.first_at), calendar.local(session.last_at)
@@ -58,7 +58,7 @@ def draw_lanes(
     def place(at: datetime) -> float:
         return min(max((at - begin).total_seconds() / UNIT, 0), width)
 
-    def draw(session: Session, y: int) -> Iterator[tuple[str, str, int, str]]:
+    def draw(session: SessionFacts, y: int) -> Iterator[tuple[str, str, int, str]]:
         assert session.first_at and session.last_at
         left, right = place(session.first_at), place(session.last_at)
         kind = "there" if session.complete else "lacks"

@@ -17,21 +17,23 @@ from ocpp_board.writers.pages.cells import (
     make_columns,
     stack,
     wrap_time,
+    write_ranges,
 )
 from ocpp_board.writers.pages.context import Context
-from ocpp_board.writers.pages.facts import AnsweredDeed, Found, RefusedText, Site, StationSummary
+from ocpp_board.writers.pages.facts import AnsweredDeed, Found, RefusedText, SessionFacts, Site, StationSummary
 from ocpp_board.writers.pages.kinds import explain, find_place
-from ocpp_board.writers.pages.sessions import make_session_table
 from ocpp_board.writers.pages.site_pages import (
     has_export,
     make_station_columns,
     make_station_row,
 )
-from ocpp_board.writers.tokens import hide_tokens
 
-# Rows of a page, and characters of a message's text.
-LIST_ROWS, LONGEST_TEXT = 200, 160
+# Rows of a page.
+LIST_ROWS = 200
 FINDINGS = make_columns("Station", " Transaction", " Finding", "Times", " First", " Detail")
+LACKING = make_columns(
+    "Transaction", " Station", "EVSE", " First event", " State", "Missing numbers", " Which"
+)
 REFUSED = make_columns(
     "Station",
     " Last and first",
@@ -40,7 +42,6 @@ REFUSED = make_columns(
     "Number",
     " Cause",
     " What and what to do",
-    Column("Text", "left wide"),
 )
 DEEDS = make_columns("When", " Who", " What", " Station", " Transaction", " Why", " Answer")
 
@@ -102,8 +103,22 @@ def list_findings(context: Context, site: Site, _stations: Stations, first: int)
 def list_lacking(context: Context, site: Site, _stations: Stations, first: int) -> Listing:
     """Lists the sessions of a site that are not complete, the latest first."""
     sessions = context.reader.lacking(site.name, LIST_ROWS + 1, first)
-    columns, rows = make_session_table(sessions, {}, context.calendar(site), context.links, True)
-    return Listing(columns, *split(rows))
+    return Listing(LACKING, *split([make_lacking_row(context, site, one) for one in sessions]))
+
+
+def make_lacking_row(context: Context, site: Site, one: SessionFacts) -> TableRow:
+    """Makes the row of a session that is not complete. It says nothing that each further message changes."""
+    links = context.links
+    cells = [
+        link(links.session(site.name, one.station, one.transaction_id), one.sent_id),
+        link(links.station(site.name, one.station), one.station),
+        str(one.evse) if one.evse else "not named",
+        write_moment(context.calendar(site), one.first_at),
+        one.state,
+        f"{one.missing:,}",
+        write_ranges(one.gaps) or UNKNOWN,
+    ]
+    return TableRow(cells, MARK)
 
 
 def list_refused(context: Context, site: Site, _stations: Stations, first: int) -> Listing:
@@ -116,7 +131,6 @@ def make_refused_row(context: Context, site: Site, one: RefusedText) -> TableRow
     """Makes the row of a message that changed nothing."""
     calendar = context.calendar(site)
     at = [write_moment(calendar, moment) for moment in (one.last_at, one.first_at)]
-    text = hide_tokens(one.text, context.options.tokens)
     cells = [
         link(context.links.station(site.name, one.station), one.station),
         stack(*dict.fromkeys(at)),
@@ -125,7 +139,6 @@ def make_refused_row(context: Context, site: Site, one: RefusedText) -> TableRow
         one.number or UNKNOWN,
         one.cause,
         stack(one.what, one.advice),
-        text if len(text) <= LONGEST_TEXT else f"{text[:LONGEST_TEXT]}...",
     ]
     return TableRow(cells, MARK)
 

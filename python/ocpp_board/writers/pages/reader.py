@@ -14,7 +14,7 @@ from ocpp_board.writers.pages.facts import (
     Lack,
     Period,
     RefusedText,
-    Session,
+    SessionFacts,
     SessionLine,
     Site,
     Totals,
@@ -29,7 +29,7 @@ SESSION = (
     f"{FLOWS}, state, began, ended, first_at, last_at, first_register, last_register, first_export_register, "
     "last_export_register, stopped_reason, token, token_type, holes"
 )
-REFUSED = "station, transaction_id, number, cause, what, advice, text, times, first_at, last_at"
+REFUSED = "station, transaction_id, sent_number, cause, what, advice, times, first_at, last_at"
 DEED = "station, transaction_id, number, word, who, why, at, outcome, name"
 
 Row = Sequence[Any]
@@ -59,11 +59,11 @@ def read_holes(text: str) -> tuple[tuple[datetime, datetime], ...]:
     return tuple((first, last) for first, last in pairs)
 
 
-def make_session(row: Row) -> Session:
+def make_session(row: Row) -> SessionFacts:
     """Makes a session of the columns SESSION."""
     registers = None if row[20] is None else (int(row[20]), int(row[21]))
     exported = None if row[22] is None else (int(row[22]), int(row[23]))
-    return Session(
+    return SessionFacts(
         row[0],
         row[1],
         row[2],
@@ -104,6 +104,15 @@ class Reader:
         )
         return [row[0] for row in rows]
 
+    def station_sites(self, station: str) -> list[str]:
+        """The sites that a station has been at."""
+        rows = self.store.fetch(
+            "select site from station where station = :station union "
+            "select site from session where station = :station",
+            station=station,
+        )
+        return [row[0] for row in rows]
+
     def find_site(self, station: str, transaction_id: str) -> str | None:
         """The site of a transaction; None where there is no such transaction."""
         rows = self.store.fetch(
@@ -132,11 +141,13 @@ class Reader:
         rows = self.read_of(sql, site, station, " order by evse")
         return [(row[0] or 0, row[1], make_flow(row, 2)) for row in rows]
 
-    def read_of(self, sql: str, site: str, station: str | None, end: str, **more: Any) -> list[Row]:
+    def read_of(
+        self, sql: str, site: str, station: str | None, tail: str, /, **more: Any
+    ) -> list[Row]:
         """Reads a statement of a site, or only what is of one of its stations."""
         if station is None:
-            return self.store.fetch(sql + end, site=site, **more)
-        one = f"{sql} and station = :station{end}"
+            return self.store.fetch(sql + tail, site=site, **more)
+        one = f"{sql} and station = :station{tail}"
         return self.store.fetch(one, site=site, station=station, **more)
 
     # Periods ----------------------------------------------------------------------------------------------------------
@@ -203,7 +214,7 @@ class Reader:
 
     # Sessions ---------------------------------------------------------------------------------------------------------
 
-    def session(self, station: str, transaction_id: str) -> Session | None:
+    def session(self, station: str, transaction_id: str) -> SessionFacts | None:
         """A transaction; None where there is no such one."""
         sql = f"select {SESSION} from session where station = :station and transaction_id = :tx"
         rows = self.store.fetch(sql, station=station, tx=transaction_id)
@@ -211,7 +222,7 @@ class Reader:
 
     def day_sessions(
         self, site: str, begin: datetime, end: datetime, station: str | None = None
-    ) -> list[Session]:
+    ) -> list[SessionFacts]:
         """The sessions that ran between two moments, by their beginnings."""
         sql = (
             f"select {SESSION} from session where site = :site and last_at >= :begin "
@@ -221,7 +232,12 @@ class Reader:
         rows = self.read_of(sql, site, station, " order by first_at, station", **values)
         return [make_session(row) for row in rows]
 
-    def latest_sessions(self, site: str, station: str, count: int) -> list[Session]:
+    def station_sessions(self, site: str, station: str) -> list[SessionFacts]:
+        """The sessions of a station."""
+        sql = f"select {SESSION} from session where site = :site"
+        return [make_session(row) for row in self.read_of(sql, site, station, "")]
+
+    def latest_sessions(self, site: str, station: str, count: int) -> list[SessionFacts]:
         """The last sessions of a station, the latest first."""
         sql = f"select {SESSION} from session where site = :site"
         end = " order by first_at desc limit :count"
@@ -247,7 +263,7 @@ class Reader:
         rows = self.read_of(sql, site, station, "")
         return [make_found(row) for row in rows]
 
-    def session_findings(self, session: Session) -> list[Found]:
+    def session_findings(self, session: SessionFacts) -> list[Found]:
         """The findings of a transaction."""
         sql = (
             "select station, transaction_id, kind, times, first_at, detail from all_finding "
@@ -263,7 +279,7 @@ class Reader:
         )
         return [Lack(*row) for row in self.read_of(sql, site, station, "")]
 
-    def lacking(self, site: str, count: int, skipped: int = 0) -> list[Session]:
+    def lacking(self, site: str, count: int, skipped: int = 0) -> list[SessionFacts]:
         """The sessions of a site that are not complete, the latest first."""
         sql = (
             f"select {SESSION} from session where site = :site and not complete and events > 0 "
@@ -281,7 +297,7 @@ class Reader:
         rows = self.read_of(sql, site, station, end, count=count, skipped=skipped)
         return [make_refused(row) for row in rows]
 
-    def session_refused(self, session: Session, count: int) -> list[RefusedText]:
+    def session_refused(self, session: SessionFacts, count: int) -> list[RefusedText]:
         """What came of a transaction and changed nothing."""
         sql = f"select {REFUSED} from refused where site = :site and transaction_id = :tx"
         values = {"tx": session.transaction_id, "count": count}
@@ -303,7 +319,7 @@ class Reader:
         rows = self.store.fetch(sql, site=site, count=count, skipped=skipped)
         return [AnsweredDeed(*row) for row in rows]
 
-    def session_deeds(self, session: Session) -> list[AnsweredDeed]:
+    def session_deeds(self, session: SessionFacts) -> list[AnsweredDeed]:
         """What operators did at a transaction, in the order of time."""
         sql = f"select {DEED} from deed where station = :station and transaction_id = :tx order by at"
         values = {"station": session.station, "tx": session.transaction_id}
@@ -328,5 +344,4 @@ def make_found(row: Row) -> Found:
 def make_refused(row: Row) -> RefusedText:
     """Makes a message that changed nothing."""
     number = "" if row[2] is None else str(row[2])
-    texts = (value or "" for value in row[3:7])
-    return RefusedText(row[0], row[1] or "", number, *texts, row[7], row[8], row[9])
+    return RefusedText(row[0], row[1] or "", number, *row[3:9])

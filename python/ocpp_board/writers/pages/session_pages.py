@@ -2,6 +2,7 @@
 
 import json
 from collections.abc import Iterator, Sequence
+from datetime import datetime, timezone
 from typing import NamedTuple
 
 from markupsafe import Markup
@@ -27,7 +28,7 @@ from ocpp_board.writers.pages.facts import (
     AnsweredDeed,
     Found,
     RefusedText,
-    Session,
+    SessionFacts,
     SessionLine,
     Site,
 )
@@ -62,7 +63,15 @@ def read_line(line: SessionLine) -> Came:
     return Came(line, word, event.number, event)
 
 
-def make_figures(session: Session, calendar: Calendar, tokens: str) -> list[Figure]:
+def read_span(lines: Sequence[SessionLine]) -> list[datetime]:
+    """Reads the first and the last moment of what lines deliver; none where they deliver nothing."""
+    events = (one.event for one in map(read_line, lines) if one.event)
+    moments = [event.at for event in events if event.at is not None]
+    ends = (min(moments), max(moments)) if moments else ()
+    return [datetime.fromtimestamp(at, timezone.utc) for at in ends]
+
+
+def make_figures(session: SessionFacts, calendar: Calendar, tokens: str) -> list[Figure]:
     """Makes the figures of a transaction."""
     exports = bool(session.flow.export_up or session.flow.export_down)
     cells = [
@@ -167,7 +176,7 @@ def show_lines(lines: Sequence[SessionLine], tokens: str) -> list[str]:
 
 
 def make_session_page(
-    context: Context, site: Site, session: Session, findings: Sequence[Found]
+    context: Context, site: Site, session: SessionFacts, findings: Sequence[Found]
 ) -> Markup:
     """Makes the page of a transaction."""
     reader, calendar = context.reader, context.calendar(site)
@@ -202,12 +211,12 @@ def make_session_page(
     )
 
 
-def make_deed_links(context: Context, session: Session) -> str:
+def make_deed_links(context: Context, session: SessionFacts) -> str:
     """The address at which an operator voids events of a transaction; empty where pages are files."""
     return context.links.operate(session.site, session.station, session.transaction_id)
 
 
-def link_days(context: Context, site: Site, session: Session) -> list[Markup]:
+def link_days(context: Context, site: Site, session: SessionFacts) -> list[Markup]:
     """Links to the first and the last day of a transaction."""
     calendar = context.calendar(site)
     days = {calendar.day(at) for at in (session.first_at, session.last_at) if at}

@@ -23,7 +23,7 @@ from ocpp_board.writers.pages.cells import (
     write_flow,
     write_ranges,
 )
-from ocpp_board.writers.pages.facts import Found, Session
+from ocpp_board.writers.pages.facts import Found, SessionFacts
 from ocpp_board.writers.pages.links import Links
 from ocpp_board.writers.pages.pictures import draw_strip
 
@@ -45,7 +45,7 @@ def write_finding(one: Found) -> Markup:
     return join([flag(one.kind + times), *([one.detail] if one.detail else [])], ": ")
 
 
-def write_state(session: Session, findings: Sequence[Found]) -> Markup:
+def write_state(session: SessionFacts, findings: Sequence[Found]) -> Markup:
     """Writes whether a session is complete, what is missing of it, and what is doubtful."""
     doubts = [write_finding(one) for one in findings]
     if not session.gaps:
@@ -82,7 +82,7 @@ def make_session_columns(
 
 
 def make_session_row(
-    session: Session,
+    session: SessionFacts,
     findings: Sequence[Found],
     calendar: Calendar,
     links: Links,
@@ -107,13 +107,13 @@ def make_session_row(
     return TableRow(cells, "" if session.complete and not findings else MARK)
 
 
-def has_export(sessions: Iterable[Session]) -> bool:
+def has_export(sessions: Iterable[SessionFacts]) -> bool:
     """Whether something was fed back in one of these sessions, or an export register fell."""
     return any(one.flow.export_up or one.flow.export_down for one in sessions)
 
 
 def make_session_table(
-    sessions: Sequence[Session],
+    sessions: Sequence[SessionFacts],
     findings: Findings,
     calendar: Calendar,
     links: Links,

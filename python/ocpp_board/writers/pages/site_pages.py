@@ -158,6 +158,7 @@ def make_site_page(
         site=site,
         figures=make_figures(totals),
         refused=refused,
+        refused_href=context.links.listing(site.name, "refused"),
         lists=list_listings(context, site),
         problem_columns=PROBLEMS,
         problems=make_problems(context, site, stations),

@@ -6,7 +6,7 @@ from ocpp_board.writers.calendar import Calendar
 from ocpp_board.writers.pages.cells import MARK, TableRow, make_columns, name_flows, wrap_time
 from ocpp_board.writers.pages.cells import UNKNOWN, write_flow
 from ocpp_board.writers.pages.context import Context
-from ocpp_board.writers.pages.facts import Found, Session, Site, StationSummary
+from ocpp_board.writers.pages.facts import Found, SessionFacts, Site, StationSummary
 from ocpp_board.writers.pages.kinds import explain
 from ocpp_board.writers.pages.month_pages import find_months, make_month
 from ocpp_board.writers.pages.sessions import group_findings, make_session_table
@@ -64,7 +64,7 @@ def make_finding_row(one: Found, calendar: Calendar) -> TableRow:
     return TableRow([one.kind, f"{one.times:,}", at, one.detail, explain(one.kind)], MARK)
 
 
-def list_sessions(context: Context, site: Site, summary: StationSummary) -> list[Session]:
+def list_sessions(context: Context, site: Site, summary: StationSummary) -> list[SessionFacts]:
     """Lists the sessions of a station that its page shows: those with troubles, and then the latest."""
     worst = [
         context.reader.session(one.station, one.transaction_id)
