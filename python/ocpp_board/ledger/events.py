@@ -54,9 +54,8 @@ def read_event(text: str, received: datetime | None, line: int) -> tuple[Event, 
     return event_of(payload, received, line), payload["transactionInfo"]["transactionId"]
 
 
-def read_history(lines: Sequence[Line], conflicts: Sequence[tuple[str, int]]) -> History:
-    """What the accepted lines of a transaction have. `conflicts`: texts that conflicted, each with how often it
-    came."""
+def read_history(lines: Sequence[Line], conflicts: Sequence[str]) -> History:
+    """What the accepted lines of a transaction have. `conflicts`: texts that conflicted with them."""
     history = History()
     for line in lines:
         word, _, rest = line.text.partition(" ")
@@ -75,8 +74,7 @@ def read_history(lines: Sequence[Line], conflicts: Sequence[tuple[str, int]]) ->
             history.voids[number] = line.who, line.why
         elif word == "erase":
             history.events.pop(number, None)
-    for text, times in conflicts:
-        history.conflicts += [read_event(text, None, 0)[0]] * times
+    history.conflicts = [read_event(text, None, 0)[0] for text in conflicts]
     return history
 
 

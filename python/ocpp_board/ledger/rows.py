@@ -25,7 +25,7 @@ SOMEBODY = "an operator"
 MOST_BYTES = 8 * 1_048_576
 # Readings of one message that count, at most, and the least bytes of one.
 MOST_OF_A_MESSAGE, LEAST_READING = 1_024, 11
-DELIVER = "deliver "
+DELIVER, CONFLICT = "deliver ", "ConflictingEvent"
 
 
 class Session(NamedTuple):
@@ -90,8 +90,8 @@ class Rows(NamedTuple):
 
 
 class Work(NamedTuple):
-    """A transaction with its stored lines and new ones. `conflicts`: texts that conflicted with stored events, each
-    with how often it came; `has_rows`: rows are wanted though nothing changes."""
+    """A transaction with its stored lines and new ones. `conflicts`: texts that conflicted with its events; `has_rows`:
+    rows are wanted though nothing changes."""
 
     station: str
     transaction: str
@@ -99,7 +99,7 @@ class Work(NamedTuple):
     rules: Rules
     stored: list[Line]
     new: list[Line]
-    conflicts: list[tuple[str, int]]
+    conflicts: list[str]
     has_rows: bool = False
 
 
@@ -118,7 +118,7 @@ def rows_of(
     station: str,
     transaction: str,
     site: str = "",
-    conflicts: Sequence[tuple[str, int]] = (),
+    conflicts: Sequence[str] = (),
 ) -> Rows:
     """The rows of a transaction by its lines. Raises StoreError where one of them is no accepted line."""
     work = Work(station, transaction, site, rules, list(lines), [], list(conflicts), True)
@@ -158,8 +158,14 @@ def finish_work(
         for line, answer in zip(work.new, own)
         if answer.outcome == "accepted"
     ]
-    if not accepted and not work.has_rows:
+    conflicts = [
+        take_message(line.text)
+        for line, answer in zip(work.new, own)
+        if answer.name == CONFLICT and line.text.startswith(DELIVER)
+    ]
+    if not accepted and not conflicts and not work.has_rows:
         return Done(own, accepted, None)
+    work = work._replace(conflicts=list(dict.fromkeys([*work.conflicts, *conflicts])))
     return Done(own, accepted, make_rows(work, [*work.stored, *accepted], board, lists))
 
 
@@ -230,6 +236,11 @@ def write_script(works: Sequence[Work]) -> bytes:
     if len(script) > LONGEST_SCRIPT:
         raise ProgramError(f"a transaction has more than {LONGEST_SCRIPT:,} bytes of lines")
     return script
+
+
+def take_message(text: str) -> str:
+    """The message of a line `deliver`."""
+    return text.split(" ", 2)[2]
 
 
 def name_station(text: str, station: str) -> str:
