@@ -32,7 +32,9 @@ def insert_text(table: str, keys: Sequence[str], columns: Sequence[str]) -> str:
 
 
 KEYS = ("station", "transaction_id")
-WRITE_SESSION = insert_text("session", KEYS, ["site", *SESSION, "changed_at"])
+WRITE_SESSION = f"""{insert_text("session", KEYS, ["site", *SESSION, "changed_at"])}
+    where ({', '.join(f'session.{name}' for name in SESSION)})
+    is distinct from ({', '.join(f'excluded.{name}' for name in SESSION)})"""
 WRITE_PART = insert_text("part", (*KEYS, "starts"), PART[1:])
 WRITE_FINDING = insert_text("finding", (*KEYS, "kind"), FINDING[1:])
 ADD_LINE = """
