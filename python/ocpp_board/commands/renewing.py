@@ -69,7 +69,9 @@ class Renewer:
     def renew(self, changed: Changed, until: datetime | None) -> None:
         """Writes what changed. Raises OSError and StoreError."""
         now = datetime.now(timezone.utc)
-        self.writer.options = self.options = replace(self.options, until=until or self.options.until)
+        self.writer.options = self.options = replace(
+            self.options, until=until or self.options.until
+        )
         if self.mark is None:
             self.pages += self.writer.write_all()
             self.write_all_tables()
@@ -90,7 +92,9 @@ class Renewer:
             mark=mark - LATE,
         )
         new = [
-            row for row in rows if self.seen.get((row.station, row.transaction_id)) != row.changed_at
+            row
+            for row in rows
+            if self.seen.get((row.station, row.transaction_id)) != row.changed_at
         ]
         self.seen |= {(row.station, row.transaction_id): row.changed_at for row in rows}
         return new

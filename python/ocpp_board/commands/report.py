@@ -54,7 +54,14 @@ from ocpp_board.sources.forms import Shape, choose_shape
 from ocpp_board.sources.lines import FORMS as WORDS
 from ocpp_board.sources.log import LogReader
 from ocpp_board.sources.script import Declaration, ScriptReader
-from ocpp_board.sources.stations import OpenPlan, StationPlan, add_rules, add_sites, add_utc, choose_plan
+from ocpp_board.sources.stations import (
+    OpenPlan,
+    StationPlan,
+    add_rules,
+    add_sites,
+    add_utc,
+    choose_plan,
+)
 from ocpp_board.statuses import Status
 from ocpp_board.store.database import Database, open_store
 from ocpp_board.store.plan import Author
@@ -95,7 +102,9 @@ class Options:
 
 def add_words(parser: argparse.ArgumentParser) -> None:
     """The words of the command."""
-    parser.add_argument("logs", nargs="+", metavar="LOG", help="a log or a script; - is standard input")
+    parser.add_argument(
+        "logs", nargs="+", metavar="LOG", help="a log or a script; - is standard input"
+    )
     parser.add_argument("--out", metavar="DIR", type=Path, required=True, help="where files go")
     add_store(parser, is_required=False)
     forms.add_form(parser)
@@ -356,7 +365,9 @@ class Report:
                 self.loader.plan(declared.site_of, declared.rules)
                 is_planned = True
             if isinstance(record, Untaken) and record.text:
-                mistakes.report(reader.number, Refused(record.what, f"{shown(record.text)}; {record.advice}"))
+                mistakes.report(
+                    reader.number, Refused(record.what, f"{shown(record.text)}; {record.advice}")
+                )
                 self.untaken += 1
             self.take(record)
         if not is_planned:
@@ -451,7 +462,9 @@ def write_report(options: Options, store: Database, pool: Pool | None) -> int:
     verified = verify(store, pool=pool)
     report.meter.end()
     if verified.difference:
-        raise InputError(f"the store is not as the program's boards are: {verified.difference}; no page is written")
+        raise InputError(
+            f"the store is not as the program's boards are: {verified.difference}; no page is written"
+        )
     log.info("verified: %s figures are those of the program's boards", f"{verified.figures:,}")
     tables = write_tables(store, options.out, options.tables)
     pages = write_pages(options, store)
@@ -477,7 +490,9 @@ def write_pages(options: Options, store: Database) -> int:
 
 def find_until(store: Database) -> datetime | None:
     """When a message was received last, as far as that is known."""
-    row = store.fetch_one("select max(received_until) as received_until, max(last_at) as last_at from session")
+    row = store.fetch_one(
+        "select max(received_until) as received_until, max(last_at) as last_at from session"
+    )
     return (row.received_until or row.last_at) if row else None
 
 

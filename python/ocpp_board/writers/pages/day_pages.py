@@ -46,9 +46,7 @@ def has_export(periods: Sequence[Period]) -> bool:
     return any(p.flow.export_up or p.flow.export_down for p in periods)
 
 
-def make_day(
-    whose: str, day: date, periods: Sequence[Period], calendar: Calendar
-) -> DayPart:
+def make_day(whose: str, day: date, periods: Sequence[Period], calendar: Calendar) -> DayPart:
     """Makes the picture and the table of a day."""
     exports = has_export(periods)
     flow = sum_of(p.flow for p in periods) if periods else None
@@ -73,9 +71,7 @@ def make_heads(calendar: Calendar, exports: bool) -> list[str]:
     return [f"Period ({calendar.name})", *utc, *name_flows(exports), "kW", "Figure"]
 
 
-def make_period_row(
-    p: Period, calendar: Calendar, exports: bool
-) -> tuple[str, Sequence[str], str]:
+def make_period_row(p: Period, calendar: Calendar, exports: bool) -> tuple[str, Sequence[str], str]:
     """Makes the row of a period: when it is, its other cells, and what is doubtful."""
     cells = [] if calendar.is_utc else [f"{p.start:%H:%M}"]
     cells += [*write_flow(p.flow, exports), write_kw(p.flow.net, p.seconds)]
@@ -97,9 +93,7 @@ def link_days(context: Context, site: Site, station: str | None, day: date) -> l
     before = calendar.day(at) if at else None
     for other, arrow in ((before, "\N{LEFTWARDS ARROW}"), (after, "\N{RIGHTWARDS ARROW}")):
         if other and context.is_shown(other):
-            found.append(
-                link(links.day(site.name, station, other), f"{arrow} {other} {other:%a}")
-            )
+            found.append(link(links.day(site.name, station, other), f"{arrow} {other} {other:%a}"))
     return found
 
 
@@ -117,9 +111,7 @@ def make_station_rows(
     return rows
 
 
-def make_day_page(
-    context: Context, site: Site, day: date, number: int = 1
-) -> tuple[Markup, int]:
+def make_day_page(context: Context, site: Site, day: date, number: int = 1) -> tuple[Markup, int]:
     """Makes the page of a day of a site, and says how many stations it has. `number`: that of the page of these."""
     calendar = context.calendar(site)
     begin, end = calendar.begin(day), calendar.end(day)
@@ -157,9 +149,7 @@ def link_pages(context: Context, site: Site, day: date, count: int) -> list[str]
     return [context.links.day(site.name, None, day, one + 1) for one in range(pages) if pages > 1]
 
 
-def list_day_sessions(
-    context: Context, site: Site, station: str, day: date
-) -> list[SessionFacts]:
+def list_day_sessions(context: Context, site: Site, station: str, day: date) -> list[SessionFacts]:
     """Lists the sessions of a station on a day."""
     calendar = context.calendar(site)
     return context.reader.day_sessions(
@@ -176,7 +166,9 @@ def make_station_day_page(context: Context, site: Site, station: str, day: date)
     findings = group_findings(context.reader.findings(site.name, station))
     columns, rows = make_session_table(shown, findings, calendar, context.links)
     lanes = group_lanes(sessions)
-    label = f"Sessions of station {station} on {day} by EVSE: {len(sessions):,}. The table has them."
+    label = (
+        f"Sessions of station {station} on {day} by EVSE: {len(sessions):,}. The table has them."
+    )
     return context.render(
         "station_day.html",
         f"Station {station},",

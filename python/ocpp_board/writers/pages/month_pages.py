@@ -151,15 +151,11 @@ def make_day_rows(
         name = link(context.links.day(site.name, station, day), str(day))
         peak = write_kw(facts.peak.flow.net, facts.peak.seconds) if facts.peak else ""
         cells = [join([name, f"{day:%a}"], " "), *write_flow(facts.flow, exports)]
-        rows.append(
-            TableRow([*cells, f"{facts.periods:,}", peak, draw_bar(facts.flow.net, most)])
-        )
+        rows.append(TableRow([*cells, f"{facts.periods:,}", peak, draw_bar(facts.flow.net, most)]))
     return rows
 
 
-def make_weeks(
-    context: Context, site: Site, days: Mapping[date, DayFacts]
-) -> list[WeekPart]:
+def make_weeks(context: Context, site: Site, days: Mapping[date, DayFacts]) -> list[WeekPart]:
     """Makes the weeks of a month, the last one first."""
     calendar, found = context.calendar(site), list[WeekPart]()
     scale = Scale(hour.flow for facts in days.values() for hour in facts.hours)
@@ -212,5 +208,3 @@ def make_month_page(
         month=part,
         weeks=make_weeks(context, site, days) if len(days) > 1 else [],
     )
-
-

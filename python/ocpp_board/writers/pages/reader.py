@@ -190,7 +190,9 @@ class Reader:
         none."""
         found = list[datetime]()
         for name in ("first_at", "last_at"):
-            sql = f"select min({name}) as {name} from session where site = :site and {name} >= :since"
+            sql = (
+                f"select min({name}) as {name} from session where site = :site and {name} >= :since"
+            )
             rows = self.read_of(sql, site, station, "", since=since)
             found += [rows[0][0]] if rows[0][0] is not None else []
         return min(found, default=None)
@@ -200,7 +202,9 @@ class Reader:
         none."""
         found = list[datetime]()
         for name in ("first_at", "last_at"):
-            sql = f"select max({name}) as {name} from session where site = :site and {name} < :until"
+            sql = (
+                f"select max({name}) as {name} from session where site = :site and {name} < :until"
+            )
             rows = self.read_of(sql, site, station, "", until=until)
             found += [rows[0][0]] if rows[0][0] is not None else []
         return max(found, default=None)
@@ -274,9 +278,7 @@ class Reader:
 
     def lacks(self, site: str, station: str | None = None) -> list[Lack]:
         """The sessions of a site or of one of its stations that are not complete."""
-        sql = (
-            "select station, transaction_id, state, missing, first_at from lacking where site = :site"
-        )
+        sql = "select station, transaction_id, state, missing, first_at from lacking where site = :site"
         return [Lack(*row) for row in self.read_of(sql, site, station, "")]
 
     def lacking(self, site: str, count: int, skipped: int = 0) -> list[SessionFacts]:
@@ -307,7 +309,9 @@ class Reader:
 
     def count_refused(self, site: str) -> int:
         """How many messages of a site's stations changed nothing."""
-        rows = self.store.fetch("select sum(times) as times from refused where site = :site", site=site)
+        rows = self.store.fetch(
+            "select sum(times) as times from refused where site = :site", site=site
+        )
         return int(rows[0][0] or 0)
 
     def deeds(self, site: str, count: int, skipped: int = 0) -> list[AnsweredDeed]:
@@ -321,7 +325,9 @@ class Reader:
 
     def session_deeds(self, session: SessionFacts) -> list[AnsweredDeed]:
         """What operators did at a transaction, in the order of time."""
-        sql = f"select {DEED} from deed where station = :station and transaction_id = :tx order by at"
+        sql = (
+            f"select {DEED} from deed where station = :station and transaction_id = :tx order by at"
+        )
         values = {"station": session.station, "tx": session.transaction_id}
         return [AnsweredDeed(*row) for row in self.store.fetch(sql, **values)]
 

@@ -114,7 +114,9 @@ def make_rows(
 def write_end(end: Came) -> str:
     """Writes who voided or erased an event, and why."""
     done = {"void": "voided", "erase": "erased"}.get(end.word, end.word)
-    return f"{done} by {end.line.who or 'an operator'}" + (f": {end.line.why}" if end.line.why else "")
+    return f"{done} by {end.line.who or 'an operator'}" + (
+        f": {end.line.why}" if end.line.why else ""
+    )
 
 
 def find_ends(came: Sequence[Came]) -> dict[int, Came]:

@@ -280,7 +280,9 @@ class PageWriter:
         self.write_days(site, None, filter(self.is_shown, days))
         after = self.summaries.site(site.name)
         names = [*after]
-        places = {names.index(name) // LIST_ROWS for name in names if before.get(name) != after[name]}
+        places = {
+            names.index(name) // LIST_ROWS for name in names if before.get(name) != after[name]
+        }
         for place in sorted(places):
             self.write_list(site, "stations", place + 1, is_rest=names != [*before])
         if any(show_troubles(before.get(name)) != show_troubles(after[name]) for name in names):
