@@ -9,7 +9,6 @@ from ocpp_board.energies import Flow
 from ocpp_board.store.database import Database
 from ocpp_board.writers.pages.facts import (
     AnsweredDeed,
-    DaySum,
     Found,
     Lack,
     Period,
@@ -22,6 +21,8 @@ from ocpp_board.writers.pages.facts import (
 
 # The longest session that a day's page looks for.
 LONGEST = timedelta(days=62)
+# Stations that a statement names.
+MOST_NAMES = 500
 FLOWS = "up, down, export_up, export_down"
 TOTALS = f"transactions, complete_transactions, events, voided, missing, {FLOWS}"
 SESSION = (
@@ -104,6 +105,13 @@ class Reader:
         )
         return [row[0] for row in rows]
 
+    def site_stations(self, site: str) -> list[str]:
+        """The stations that have transactions at a site, or that the plan has there."""
+        rows = self.store.fetch(
+            "select station from board_station where site = :site order by station", site=site
+        )
+        return [row[0] for row in rows]
+
     def station_sites(self, station: str) -> list[str]:
         """The sites that a station has been at."""
         rows = self.store.fetch(
@@ -123,11 +131,6 @@ class Reader:
         return rows[0][0] if rows else None
 
     # Figures ----------------------------------------------------------------------------------------------------------
-
-    def site_totals(self, site: str) -> Totals:
-        """The figures of a site."""
-        rows = self.store.fetch(f"select {TOTALS} from board_site where site = :site", site=site)
-        return make_totals(rows[0]) if rows else Totals()
 
     def station_totals(self, site: str, station: str | None = None) -> dict[str, Totals]:
         """The figures of a site's stations, or of one of them."""
@@ -161,29 +164,23 @@ class Reader:
         rows = self.store.fetch(sql, site=site.name, begin=begin, end=end)
         return [make_period(row, site.period) for row in rows]
 
-    def station_periods(
-        self, site: Site, station: str, begin: datetime, end: datetime
-    ) -> list[Period]:
-        """The periods of a station of a site from one moment to another."""
-        sql = (
-            f"select starts, {FLOWS}, estimated, lacks_numbers from board_period where site = :site "
-            "and station = :station and starts >= :begin and starts < :end order by starts"
-        )
-        rows = self.store.fetch(sql, site=site.name, station=station, begin=begin, end=end)
-        return [make_period(row, site.period) for row in rows]
-
-    def day_sums(
-        self, site: Site, begin: datetime, end: datetime, station: str | None = None
-    ) -> dict[str, DaySum]:
-        """The energies of stations from one moment to another."""
-        net = "up - down - export_up + export_down"
-        sql = (
-            "select station, sum(up), sum(down), sum(export_up), sum(export_down), count(*), "
-            f"max({net}) as most from board_period where site = :site and starts >= :begin and starts < :end"
-        )
-        rows = self.read_of(sql, site.name, station, " group by station", begin=begin, end=end)
-        found = [DaySum(row[0], make_flow(row, 1), row[5], int(row[6])) for row in rows]
-        return {one.station: one for one in sorted(found)}
+    def day_periods(
+        self, site: Site, stations: Sequence[str], begin: datetime, end: datetime
+    ) -> dict[str, list[Period]]:
+        """The periods of some stations of a site from one moment to another. Each station is named, so that an index by
+        station and time serves."""
+        found = dict[str, list[Period]]()
+        for first in range(0, len(stations), MOST_NAMES):
+            names = {f"s{place}": one for place, one in enumerate(stations[first : first + MOST_NAMES])}
+            sql = (
+                f"select starts, {FLOWS}, estimated, lacks_numbers, station from board_period "
+                "where site = :site and starts >= :begin and starts < :end and station in "
+                f"({', '.join(f':{name}' for name in names)}) order by starts"
+            )
+            rows = self.store.fetch(sql, site=site.name, begin=begin, end=end, **names)
+            for row in rows:
+                found.setdefault(row[7], []).append(make_period(row, site.period))
+        return found
 
     def next_moment(self, site: str, station: str | None, since: datetime) -> datetime | None:
         """The first moment from one on at which a session of a site or of a station began or ended; None where there is
@@ -324,6 +321,15 @@ class Reader:
         sql = f"select {DEED} from deed where station = :station and transaction_id = :tx order by at"
         values = {"station": session.station, "tx": session.transaction_id}
         return [AnsweredDeed(*row) for row in self.store.fetch(sql, **values)]
+
+    def count_deeds(self, station: str, transaction_id: str) -> int:
+        """How much operators did at a transaction."""
+        rows = self.store.fetch(
+            "select count(*) as times from deed where station = :station and transaction_id = :tx",
+            station=station,
+            tx=transaction_id,
+        )
+        return int(rows[0][0])
 
     def count_strays(self) -> int:
         """How many messages came of stations that no site has."""

@@ -69,6 +69,8 @@ class PageWriter:
         self.facts: dict[str, SiteFacts] = {}
         # By station and transaction, from when to when it ran as its pages show it.
         self.spans = OrderedDict[tuple[str, str], tuple[datetime, datetime]]()
+        # By station and transaction, how much operators did there.
+        self.deeds = dict[tuple[str, str], int]()
         self.written = datetime.now(timezone.utc)
         self.count = 0
 
@@ -133,6 +135,7 @@ class PageWriter:
         for month in months:
             days = find_days(self.open_context("index.html"), site, station, month)
             self.write_days(site, station, days)
+        self.book.made.clear()
         if station is not None:
             findings = group_findings(self.reader.findings(site.name, station))
             for session in self.reader.station_sessions(site.name, station):
@@ -206,6 +209,7 @@ class PageWriter:
     def write_changed(self, changed: Collection[Changed]) -> int:
         """Writes the pages of what changed, and gives how many. Raises OSError."""
         self.count, self.written = 0, datetime.now(timezone.utc)
+        self.book.made.clear()
         sites = {site.name: site for site in self.reader.sites()}
         places = dict[tuple[str, str], set[date]]()
         touched = set[str]()
@@ -221,7 +225,7 @@ class PageWriter:
             places.setdefault((session.site, station), set()).update(days)
         before = {name: dict(self.summaries.site(name)) for name in touched if name in sites}
         for (name, station), days in places.items():
-            self.book.drop(name, (None, station), days)
+            self.book.drop(sites[name], station, days)
             self.summaries.drop(name, [station])
         self.write_sessions(sites, changed)
         for (name, station), days in places.items():
@@ -288,8 +292,15 @@ class PageWriter:
             self.write_list(site, "lacking")
         if any(tx is None for _, tx in changed):
             self.write_list(site, "refused")
-        if any(tx is not None for _, tx in changed):
+        if any(self.has_deeds(station, tx) for station, tx in changed if tx is not None):
             self.write_list(site, "deeds")
+
+    def has_deeds(self, station: str, transaction_id: str) -> bool:
+        """Whether operators did something at a transaction since its page was written before."""
+        key = station, transaction_id
+        count = self.reader.count_deeds(station, transaction_id)
+        had, self.deeds[key] = self.deeds.get(key, 0), count
+        return count != had
 
     def is_shown(self, day: date) -> bool:
         """Whether a day is among those that are shown."""
