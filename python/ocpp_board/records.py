@@ -10,13 +10,16 @@ DEEDS = ("void", "restore", "erase")
 @dataclass(frozen=True, slots=True)
 class Message:
     """A text of a station. `origin`: where it is from, for errors and repeats, such as `csms.log:17`; `site`: the site
-    that the source names, which the plan may not have."""
+    that the source names, which the plan may not have. `mends`: the faults that were mended in it, and `came`: the text
+    as the station sent it, where some were."""
 
     station: str
     text: str
     received: datetime | None
     origin: str
     site: str | None = None
+    mends: str = ""
+    came: str = ""
 
 
 @dataclass(frozen=True, slots=True)
@@ -36,7 +39,7 @@ class Deed:
 @dataclass(frozen=True, slots=True)
 class Untaken:
     """What a source can't take: the line's text, the cause in words, and what to do. Texts are empty where they are
-    not known."""
+    not known. `cause`: the name under which it is listed."""
 
     station: str
     transaction: str
@@ -47,6 +50,7 @@ class Untaken:
     received: datetime | None
     origin: str
     site: str | None = None
+    cause: str = "Untaken"
 
 
 Asked = Message | Deed | Untaken
@@ -80,8 +84,7 @@ class Limits:
 @dataclass(frozen=True, slots=True)
 class Rules:
     """A site's rules: the length of its periods in seconds, the order of readings, the rule of settling, what a
-    transaction may keep, the zone of its days, and the greatest power of an EVSE that can be, in kW.
-    """
+    transaction may keep, the zone of its days, and the greatest power of an EVSE that can be, in kW."""
 
     period: int = 900
     order: str = "moment"

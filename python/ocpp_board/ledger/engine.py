@@ -6,12 +6,12 @@ answer is given only after the commit. A failure gives none, and the same may co
 """
 
 import re
-from collections.abc import Iterable, Iterator, Sequence
+from collections.abc import Callable, Iterable, Iterator, Sequence
 from dataclasses import dataclass, field
 from datetime import datetime, timezone
+from functools import partial
 from typing import Any, NamedTuple, Protocol
 
-from ocpp_board.errors import StoreError
 from ocpp_board.ledger.answers import LineAnswer, Wish
 from ocpp_board.ledger.program import find_program
 from ocpp_board.ledger.refusals import (
@@ -22,6 +22,7 @@ from ocpp_board.ledger.refusals import (
     describe_message,
     describe_stranger,
     describe_untaken,
+    digest_text,
     find_names,
     is_left_out,
     keep_text,
@@ -34,7 +35,7 @@ from ocpp_board.messages.texts import one_line
 from ocpp_board.messages.times import SECOND
 from ocpp_board.records import Answer, Asked, Deed, Line, Message, Rules, Untaken
 from ocpp_board.store import lines as store_lines
-from ocpp_board.store.database import Database, choose
+from ocpp_board.store.database import Database, Row, choose
 from ocpp_board.store.lines import Held, Key
 from ocpp_board.store.plan import RULES_COLUMNS, Author, lock_sites, read_rules, write_site
 
@@ -70,6 +71,8 @@ class Batch:
     # Messages of no transaction, by their places, and those that may have readings.
     replied: dict[int, Message] = field(default_factory=dict)
     others: list[Message] = field(default_factory=list)
+    # Messages that were mended, each with what it asks for.
+    mended: list[tuple[Message, Wish]] = field(default_factory=list)
 
 
 class Piece(NamedTuple):
@@ -79,16 +82,24 @@ class Piece(NamedTuple):
     works: list[Work]
 
 
-def settle(store: Database, asked: Sequence[Asked], pool: Pool | None = None) -> list[Answer]:
+def settle(
+    store: Database,
+    asked: Sequence[Asked],
+    pool: Pool | None = None,
+    *,
+    also: Callable[[Database], None] | None = None,
+) -> list[Answer]:
     """Answers what is asked, in its order, once all that it changes is committed. Raises StoreError and ProgramError,
-    and then nothing has changed. `pool`: processes among which texts and transactions are parted.
-    """
+    and then nothing has changed. `pool`: processes among which texts and transactions are parted; `also`: is called
+    within the database transaction, right before its commit."""
     batch = Batch(asked, ask_program(asked, pool))
     sort_asked(batch)
     find_strangers(store, batch)
-    if batch.sessions or batch.refusals or batch.others:
+    if batch.sessions or batch.refusals or batch.others or batch.mended or also:
         with store.transaction():
             write_batch(store, batch, pool)
+            if also:
+                also(store)
     return [batch.answers[place] for place in range(len(asked))]
 
 
@@ -139,6 +150,8 @@ def sort_asked(batch: Batch) -> None:
             batch.sessions.setdefault((one.station, one.transaction.lower()), []).append(place)
         else:
             sort_message(batch, place, one, batch.wishes[place])
+            if one.mends:
+                batch.mended.append((one, batch.wishes[place]))
 
 
 def sort_message(batch: Batch, place: int, one: Message, wish: Wish) -> None:
@@ -205,6 +218,7 @@ def write_batch(store: Database, batch: Batch, pool: Pool | None) -> None:
         take_answers(store, batch, key, done, held[key], deeds)
     write_refusals(store, batch)
     write_strays(store, batch)
+    write_mended(store, batch)
     write_levels(store, batch, sites)
 
 
@@ -462,6 +476,25 @@ def write_strays(store: Database, batch: Batch) -> None:
         store.execute_each(choose(store_lines.ADD_STRAY, store.kind), rows)
 
 
+def write_mended(store: Database, batch: Batch) -> None:
+    """Adds messages that were mended."""
+    rows = [
+        {
+            "station": one.station,
+            "digest": digest_text(one.came),
+            "transaction": wish.text if wish.outcome == "event" else "",
+            "number": wish.number if wish.outcome == "event" else None,
+            "at": one.received or find_names(one.text).at,
+            "mends": one.mends,
+            "came": keep_text(one.came),
+            "origin": one.origin,
+        }
+        for one, wish in batch.mended
+    ]
+    if rows:
+        store.execute_each(store_lines.ADD_MENDED, rows)
+
+
 def write_levels(store: Database, batch: Batch, sites: dict[str, str]) -> None:
     """Adds what registers read in MeterValues outside transactions."""
     found = dict[tuple[str, int], list[tuple[datetime, int]]]()
@@ -515,24 +548,29 @@ def compute_again(store: Database, site: str, rules: Rules) -> int:
         count, after = count + len(keys), keys[-1]
 
 
-def take_strays(store: Database, station: str, pool: Pool | None = None) -> list[Answer]:
-    """Settles what came of a station before the plan had it, in the order of receipt. Raises StoreError where the plan
-    still lacks it."""
-    if station not in store_lines.find_sites(store, [station]):
-        raise StoreError(f"no site has the station {station}")
-    rows = store.fetch(
-        """select digest, site, text, received, origin from stray where station = :station
-        order by received, origin, digest""",
-        station=station,
-    )
-    answers = settle(
-        store,
-        [Message(station, row.text, row.received, row.origin, row.site or None) for row in rows],
-        pool,
-    )
-    with store.transaction():
-        store.execute_each(
-            "delete from stray where station = :station and digest = :digest",
-            [{"station": station, "digest": row.digest} for row in rows],
-        )
+def take_strays(
+    store: Database, stations: Iterable[str] | None = None, pool: Pool | None = None
+) -> list[Answer]:
+    """Settles what came of stations before the plan had them, in the order of receipt. `stations`: None for all that
+    the plan has by now."""
+    asked = """select station, digest, site, text, received, origin from stray where station = :station
+    order by received, origin, digest"""
+    if stations is None:
+        rows = store.fetch("select distinct station from stray order by station")
+        stations = [row.station for row in rows]
+    answers = list[Answer]()
+    for station in store_lines.find_sites(store, sorted(stations)):
+        rows = store.fetch(asked, station=station)
+        texts = [
+            Message(station, row.text, row.received, row.origin, row.site or None) for row in rows
+        ]
+        answers += settle(store, texts, pool, also=partial(forget_strays, rows))
     return answers
+
+
+def forget_strays(rows: Sequence[Row], store: Database) -> None:
+    """Removes strays that were settled."""
+    store.execute_each(
+        "delete from stray where station = :station and digest = :digest",
+        [{"station": row.station, "digest": row.digest} for row in rows],
+    )

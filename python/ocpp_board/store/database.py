@@ -10,27 +10,41 @@ from collections import namedtuple
 from collections.abc import Callable, Iterable, Iterator, Mapping, Sequence
 from contextlib import contextmanager
 from datetime import date, datetime, timezone
-from functools import lru_cache
+from functools import lru_cache, wraps
 from pathlib import Path
-from typing import Any
+from typing import Any, ParamSpec, TypeVar
 
 from ocpp_board.errors import StoreError, UsageError
 
+try:
+    import psycopg
+    from psycopg.rows import namedtuple_row
+
+    FAULTS: tuple[type[Exception], ...] = (sqlite3.Error, psycopg.Error)
+except ModuleNotFoundError:
+    FAULTS = (sqlite3.Error,)
+
 HERE = Path(__file__).parent
 VERSION = 1
+# The files of the schema, in the order in which they are run.
+SOURCES = "schema.sql days.sql gateway.sql views.sql finding_views.sql days_views.sql".split()
 # How many partitions PostgreSQL's tables by station have.
 PARTITIONS = 16
 # Seconds that a writer waits for another one.
 PATIENCE = 60
 MARK = re.compile(r"/\*(sqlite|postgresql) (.*?)\*/", re.DOTALL)
+# A text in quotes, in which nothing is a comment, or a comment.
+COMMENT = re.compile(r"('(?:[^'])*')|--[^\n]*")
 PARAMETER = re.compile(r"(?<![:\w]):([a-z_]+)")
 PARTITIONED = re.compile(r"create table (\w+) \([^;]*partition by hash", re.DOTALL)
 # Columns whose values are moments, days or yes and no, by their names.
 MOMENTS = {"at", "starts", "since", "until", "received", "began", "ended"}
 DAYS = {"day", "first_settled_day"}
-FLAGS = {"complete", "measured", "numbers_missing", "on_board"}
+FLAGS = {"complete", "measured", "numbers_missing", "on_board", "whole"}
 
 Row = Any  # A named tuple of a statement's columns.
+P = ParamSpec("P")
+T = TypeVar("T")
 Values = Mapping[str, Any]
 
 
@@ -90,6 +104,10 @@ class Database:
         """A database transaction, as a `with`: committed at its end, and undone where it fails."""
         raise NotImplementedError
 
+    def snapshot(self) -> Any:
+        """One moment of the store for reading, as a `with`."""
+        raise NotImplementedError
+
     def close(self) -> None:
         """Closes the store."""
         raise NotImplementedError
@@ -113,6 +131,19 @@ class Database:
         self.close()
 
 
+def report_faults(method: Callable[P, T]) -> Callable[P, T]:
+    """Has a method raise StoreError where the database fails."""
+
+    @wraps(method)
+    def run(*words: P.args, **values: P.kwargs) -> T:
+        try:
+            return method(*words, **values)
+        except FAULTS as fault:
+            raise StoreError(f"the store failed: {str(fault).strip()}") from fault
+
+    return run
+
+
 class SqliteDatabase(Database):
     """A store in a SQLite file, in WAL mode: readers wait for nobody, and a second writer waits for the first."""
 
@@ -133,18 +164,22 @@ class SqliteDatabase(Database):
         self.connection.row_factory = make_row
         self.path = path
 
+    @report_faults
     def execute(self, statement: str, **values: Any) -> int:
         """Runs a statement, and gives how many rows it changed."""
         return self.connection.execute(statement, values).rowcount
 
+    @report_faults
     def execute_each(self, statement: str, values: Iterable[Values]) -> None:
         """Runs a statement for each of these values."""
         self.connection.executemany(statement, values)
 
+    @report_faults
     def execute_script(self, text: str) -> None:
         """Runs statements."""
         self.connection.executescript(text)
 
+    @report_faults
     def fetch(self, statement: str, **values: Any) -> list[Row]:
         """The rows of a statement."""
         return self.connection.execute(statement, values).fetchall()
@@ -161,13 +196,23 @@ class SqliteDatabase(Database):
     @contextmanager
     def transaction(self) -> Iterator[None]:
         """A database transaction that holds the one lock of writers."""
-        self.connection.execute("begin immediate")
+        self.execute("begin immediate")
         try:
             yield
+            self.execute("commit")
         except BaseException:
-            self.connection.execute("rollback")
+            if self.connection.in_transaction:
+                self.execute("rollback")
             raise
-        self.connection.execute("commit")
+
+    @contextmanager
+    def snapshot(self) -> Iterator[None]:
+        """One moment of the store, for reading."""
+        self.execute("begin")
+        try:
+            yield
+        finally:
+            self.execute("rollback")
 
     def close(self) -> None:
         """Closes the store."""
@@ -218,14 +263,10 @@ class PostgresDatabase(Database):
 
     def __init__(self, url: str) -> None:
         """Raises StoreError."""
-        try:
-            import psycopg
-            from psycopg.rows import namedtuple_row
-        except ModuleNotFoundError:
+        if len(FAULTS) == 1:
             raise StoreError(
                 "a store in PostgreSQL needs psycopg 3 (Debian: apt-get install python3-psycopg)"
-            ) from None
-        self.faults = psycopg.Error
+            )
         try:
             self.connection = psycopg.connect(
                 url, autocommit=True, row_factory=namedtuple_row, prepare_threshold=2
@@ -235,19 +276,23 @@ class PostgresDatabase(Database):
             raise StoreError(f"the store can't be reached: {fault}") from None
         self.url = url
 
+    @report_faults
     def execute(self, statement: str, **values: Any) -> int:
         """Runs a statement, and gives how many rows it changed."""
         return int(self.connection.execute(write_postgresql(statement), values).rowcount)
 
+    @report_faults
     def execute_each(self, statement: str, values: Iterable[Values]) -> None:
         """Runs a statement for each of these values, without waiting between them."""
         with self.connection.cursor() as cursor:
             cursor.executemany(write_postgresql(statement), values)
 
+    @report_faults
     def execute_script(self, text: str) -> None:
         """Runs statements."""
         self.connection.execute(text)
 
+    @report_faults
     def fetch(self, statement: str, **values: Any) -> list[Row]:
         """The rows of a statement."""
         return list(self.connection.execute(write_postgresql(statement), values).fetchall())
@@ -271,9 +316,21 @@ class PostgresDatabase(Database):
             cursor.execute(write_postgresql(statement), values)
             yield from cursor
 
-    def transaction(self) -> Any:
+    @contextmanager
+    def transaction(self) -> Iterator[None]:
         """A database transaction."""
-        return self.connection.transaction()
+        try:
+            with self.connection.transaction():
+                yield
+        except FAULTS as fault:
+            raise StoreError(f"the store failed: {str(fault).strip()}") from fault
+
+    @contextmanager
+    def snapshot(self) -> Iterator[None]:
+        """One moment of the store, for reading."""
+        with self.transaction():
+            self.execute("set transaction isolation level repeatable read, read only")
+            yield
 
     def close(self) -> None:
         """Closes the store."""
@@ -294,9 +351,6 @@ def open_store(name: str, is_durable: bool = True) -> Database:
     database = PostgresDatabase(name) if is_postgresql(name) else SqliteDatabase(name, is_durable)
     try:
         make_tables(database)
-    except sqlite3.DatabaseError as fault:
-        database.close()
-        raise StoreError(f"{name} is no store: {fault}") from None
     except BaseException:
         database.close()
         raise
@@ -325,11 +379,7 @@ def has_table(database: Database) -> bool:
 
 def list_sources() -> list[Path]:
     """The files of the schema: tables, then views."""
-    return [
-        path
-        for path in map(HERE.joinpath, ("schema.sql", "views.sql", "finding_views.sql"))
-        if path.exists()
-    ]
+    return [path for path in map(HERE.joinpath, SOURCES) if path.exists()]
 
 
 def make_schema(database: SqliteDatabase | PostgresDatabase) -> None:
@@ -358,5 +408,5 @@ def make_schema(database: SqliteDatabase | PostgresDatabase) -> None:
 
 def part_statements(text: str) -> list[str]:
     """The statements of a file, each of which ends at the end of a line, without comments."""
-    bare = re.sub(r"--[^\n]*", "", text)
+    bare = COMMENT.sub(lambda found: found[1] or "", text)
     return [one.strip() for one in re.split(r";[ \t]*(?:\n|$)", bare) if one.strip()]

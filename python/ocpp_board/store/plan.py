@@ -39,6 +39,12 @@ def find_rules(store: Database, site: str) -> Rules | None:
     return read_rules(row) if row else None
 
 
+def list_stations(store: Database) -> dict[str, str]:
+    """All stations of the plan, each with its site, in the order in which they were added."""
+    rows = store.fetch("select station, site from station order by place, station")
+    return {row.station: row.site for row in rows}
+
+
 def check_rules(rules: Rules, where: str) -> None:
     """Checks rules. Raises InputError, which begins with `where`."""
     if rules.period not in PERIODS:
@@ -92,6 +98,7 @@ def write_site(
     check_name(site, "site", where)
     check_rules(rules, where)
     lock_sites(store, [site], True)
+    store.execute("update site set place = place where site = :site", site=site)
     had = store.fetch_one(
         f"select {RULES_COLUMNS}, first_settled_day from site where site = :site", site=site
     )

@@ -8,7 +8,7 @@ create table store (version int not null, made_at timestamptz not null);
 
 -- The rules of a site. They may change until its first day is settled.
 create table site (
-    site text primary key,
+    site text /*postgresql collate "C"*/ primary key,
     period int not null default 900 check (period in (300, 900, 1800, 3600)),
     reading_order text not null default 'moment' check (reading_order in ('sequence', 'moment')),
     settle text not null default 'even' check (settle in ('later', 'closing', 'even')),
@@ -16,22 +16,30 @@ create table site (
     events int not null default 4096,           -- what a transaction may keep
     readings int not null default 16384,
     most_kw int not null default 400,           -- the greatest power of an EVSE that can be
+    most_open int not null default 0,           -- open transactions of a station, bytes a day; 0: any number
+    most_bytes bigint not null default 0,
     first_settled_day date,
     place int not null default 0                -- the order of sites on pages
 );
 -- A station's site is the one that its next transactions belong to.
 create table station (
-    station text primary key,
-    site text not null,
+    station text /*postgresql collate "C"*/ primary key,
+    site text /*postgresql collate "C"*/ not null,
     since timestamptz,
     until timestamptz,                          -- when it was retired
-    password_hash text not null default '',     -- and the one before it, while a password changes
-    password_hash_before text not null default '',
     certificate text not null default '',
     heard_at timestamptz,                       -- when a gateway heard of it last
     place int not null default 0
 );
 create index station_site on station (site, station);
+-- What a station sent on a day.
+create table usage (
+    station text /*postgresql collate "C"*/ not null,
+    day date not null,
+    bytes bigint not null default 0,
+    messages bigint not null default 0,
+    primary key (station, day)
+);
 -- What the clocks of a zone show beside UTC, in seconds, from one moment to another.
 create table zone_offset (
     zone text not null,
@@ -52,7 +60,7 @@ create table change (
     after_text text not null default ''
 );
 create table operator (
-    operator text primary key,
+    operator text /*postgresql collate "C"*/ primary key,
     password_hash text not null default '',
     role text not null default 'reader',
     sites text not null default '',             -- separated by blanks; empty: all
@@ -61,7 +69,7 @@ create table operator (
 );
 create table token (
     token_hash text primary key,
-    operator text not null default '',
+    operator text /*postgresql collate "C"*/ not null default '',
     role text not null default 'reader',
     sites text not null default '',
     note text not null default '',
@@ -74,13 +82,13 @@ create table token (
 -- The lines that changed a transaction, in the order in which they were accepted. They are never written again but by
 -- forgetting.
 create table line (
-    station text not null,
-    transaction_id text not null,
+    station text /*postgresql collate "C"*/ not null,
+    transaction_id text /*postgresql collate "C"*/ not null,
     number int not null,
     received timestamptz,
     line text not null,                         -- deliver STATION TEXT, or void STATION TRANSACTION NUMBER and so on
     who text not null default '',
-    origin text not null default '',
+    origin text /*postgresql collate "C"*/ not null default '',
     why text not null default '',
     primary key (station, transaction_id, number)
 ) /*postgresql partition by hash (station)*/;
@@ -88,9 +96,9 @@ create table line (
 -- its live events; `holes`: JSON, pairs of seconds since 1970 between which numbers are missing; `signed`: JSON, the
 -- first and the last signed value, each with its public key.
 create table session (
-    station text not null,
-    transaction_id text not null,
-    site text not null,
+    station text /*postgresql collate "C"*/ not null,
+    transaction_id text /*postgresql collate "C"*/ not null,
+    site text /*postgresql collate "C"*/ not null,
     lines int not null default 0,
     evse int not null default 0,
     events int not null default 0,
@@ -129,11 +137,14 @@ create table session (
 ) /*postgresql partition by hash (station)*/;
 create index session_site on session (site, station);
 create index session_time on session (station, evse, first_at);
+create index session_site_first on session (site, first_at);
+create index session_site_last on session (site, last_at, first_at);
+create index session_lacking on session (site, station) where events > 0 and not complete;
 -- A settlement period of a transaction. `on_board`: a board shows it; `shared`: what it gets if energy around its
 -- unmeasured ends is shared by time, net; null where it is measured.
 create table part (
-    station text not null,
-    transaction_id text not null,
+    station text /*postgresql collate "C"*/ not null,
+    transaction_id text /*postgresql collate "C"*/ not null,
     starts timestamptz not null,
     up bigint not null,
     down bigint not null,
@@ -148,9 +159,9 @@ create table part (
 create index part_time on part (station, starts);
 -- What is doubtful in the data of one transaction. What is doubtful between transactions is in views.
 create table finding (
-    station text not null,
-    transaction_id text not null,
-    kind text not null,
+    station text /*postgresql collate "C"*/ not null,
+    transaction_id text /*postgresql collate "C"*/ not null,
+    kind text /*postgresql collate "C"*/ not null,
     times bigint not null,
     first_at timestamptz,
     detail text not null default '',
@@ -159,7 +170,7 @@ create table finding (
 -- What an import register read in MeterValues that a station sent outside its transactions. Of readings in a row with
 -- one level the first and the last are kept.
 create table meter_value (
-    station text not null,
+    station text /*postgresql collate "C"*/ not null,
     evse int not null,
     at timestamptz not null,
     up_register bigint not null,
@@ -172,11 +183,11 @@ create table meter_value (
 -- cause, so the same again is one row; `origins`: the places in files that it was read from, so a file that is read
 -- again is not counted again. Beyond so many texts of a station and a cause the text is that of the first one.
 create table refusal (
-    station text not null,
-    cause text not null,
-    digest text not null,
-    site text not null default '',              -- as the source names it, where the plan has no such station
-    transaction_id text not null default '',
+    station text /*postgresql collate "C"*/ not null,
+    cause text /*postgresql collate "C"*/ not null,
+    digest text /*postgresql collate "C"*/ not null,
+    site text /*postgresql collate "C"*/ not null default '',              -- as the source names it, where the plan has no such station
+    transaction_id text /*postgresql collate "C"*/ not null default '',
     number bigint,
     sent_id text not null default '',           -- the same as the message has them
     sent_number text not null default '',
@@ -192,29 +203,42 @@ create table refusal (
 create index refusal_session on refusal (station, transaction_id);
 -- Messages of stations that no site has. They are taken once the plan has the station.
 create table stray (
-    station text not null,
-    digest text not null,
-    site text not null default '',              -- as the source names it
-    transaction_id text not null default '',
+    station text /*postgresql collate "C"*/ not null,
+    digest text /*postgresql collate "C"*/ not null,
+    site text /*postgresql collate "C"*/ not null default '',              -- as the source names it
+    transaction_id text /*postgresql collate "C"*/ not null default '',
     number bigint,
     sent_id text not null default '',
     text text not null,
     received timestamptz,
-    origin text not null default '',
+    origin text /*postgresql collate "C"*/ not null default '',
     origins text not null default '',
     times bigint not null default 1,
     first_at timestamptz,
     last_at timestamptz,
     primary key (station, digest)
 );
+-- Messages that were mended before they were taken. `mends`: the faults; `came`: the text as the station sent it;
+-- `digest`: that of the text.
+create table mended (
+    station text /*postgresql collate "C"*/ not null,
+    digest text not null,
+    transaction_id text /*postgresql collate "C"*/ not null default '',
+    number bigint,
+    at timestamptz,
+    mends text not null,
+    came text not null,
+    origin text not null default '',
+    primary key (station, digest)
+) /*postgresql partition by hash (station)*/;
 -- Every operator's line with its answer. `at`: when it came, or 2000-01-01 where its source has no time.
 create table deed (
-    station text not null,
-    transaction_id text not null,
+    station text /*postgresql collate "C"*/ not null,
+    transaction_id text /*postgresql collate "C"*/ not null,
     number bigint not null,
-    word text not null,
+    word text /*postgresql collate "C"*/ not null,
     at timestamptz not null,
-    origin text not null default '',
+    origin text /*postgresql collate "C"*/ not null default '',
     who text not null default '',
     why text not null default '',
     outcome text not null,
@@ -224,53 +248,9 @@ create table deed (
 );
 -- How far a source that grows was read: committed with the lines that it gave.
 create table source (
-    origin text primary key,
-    position bigint not null default 0,
-    identity text not null default '',
+    origin text /*postgresql collate "C"*/ primary key,
+    place bigint not null default 0,
+    front text not null default '',             -- by which the file is known again
     state text not null default '',
     read_at timestamptz
-);
-
--- What closings froze -------------------------------------------------------------------------------------------------
-
--- Each closing of a site: up to which day, by whom, when.
-create table closing (
-    site text not null,
-    closing int not null,
-    day date not null,
-    closed_at timestamptz not null,
-    who text not null default '',
-    note text not null default '',
-    primary key (site, closing)
-);
--- What a closing froze of a period of a station's EVSE; later closings add rows with what differs.
-create table settled (
-    site text not null,
-    station text not null,
-    evse int not null,
-    starts timestamptz not null,
-    closing int not null,
-    day date not null,
-    up bigint not null,
-    down bigint not null,
-    export_up bigint not null,
-    export_down bigint not null,
-    measured boolean not null default true,
-    why text not null default '',
-    primary key (site, station, evse, starts, closing)
-);
--- What a closing froze of a complete transaction; later closings add rows with what differs.
-create table settled_session (
-    station text not null,
-    transaction_id text not null,
-    closing int not null,
-    site text not null,
-    day date not null,
-    up bigint not null,
-    down bigint not null,
-    export_up bigint not null,
-    export_down bigint not null,
-    lines int not null,
-    why text not null default '',
-    primary key (station, transaction_id, closing)
 );

@@ -1,5 +1,5 @@
 -- The views of a store, once for SQLite and PostgreSQL, as schema.sql is. Each has a sentence, its names are stable, and
--- no figure is computed in two of them. Energies are mWh, but in `energy` and `bill`, which have kWh.
+-- no figure is computed in two of them. Energies are mWh, but in `energy`, which has kWh.
 
 -- The figures of each station and site where it has transactions, or where it is planned, as a board's total line.
 create view board_station as
@@ -55,14 +55,16 @@ create view evse_period as
 create view board_period as
     select site, station, starts,
         cast(sum(up) as bigint) as up, cast(sum(down) as bigint) as down,
-        cast(sum(export_up) as bigint) as export_up, cast(sum(export_down) as bigint) as export_down
+        cast(sum(export_up) as bigint) as export_up, cast(sum(export_down) as bigint) as export_down,
+        max(estimated) as estimated, cast(sum(shared) as bigint) as shared, max(lacks_numbers) as lacks_numbers
     from evse_period where shown = 1 group by site, station, starts;
 
 -- The energy of each settlement period of a site, as its board shows them.
 create view board_site_period as
     select site, starts,
         cast(sum(up) as bigint) as up, cast(sum(down) as bigint) as down,
-        cast(sum(export_up) as bigint) as export_up, cast(sum(export_down) as bigint) as export_down
+        cast(sum(export_up) as bigint) as export_up, cast(sum(export_down) as bigint) as export_down,
+        max(estimated) as estimated, cast(sum(shared) as bigint) as shared, max(lacks_numbers) as lacks_numbers
     from board_period group by site, starts;
 
 -- The energy of each period of an EVSE in kWh, with the day and the time that clocks at the site show at its start.
@@ -94,56 +96,20 @@ create view silent_station as
         (select max(s.received_until) from session s where s.station = t.station) as received_until
     from station t where t.until is null;
 
--- What closings say of each transaction: provisional, settled, or corrected.
-create view session_state as
-    select s.site, s.station, s.transaction_id,
-        case when c.closings is null then 'provisional' when c.closings = 1 then 'settled' else 'corrected' end as state,
-        c.day, c.closings
-    from session s left join (
-        select station, transaction_id, count(*) as closings, min(day) as day from settled_session
-        group by station, transaction_id) c
-    on c.station = s.station and c.transaction_id = s.transaction_id;
-
--- What is settled of each period of an EVSE, corrections included.
-create view settled_period as
-    select site, station, evse, starts, min(day) as day,
-        cast(sum(up) as bigint) as up, cast(sum(down) as bigint) as down,
-        cast(sum(export_up) as bigint) as export_up, cast(sum(export_down) as bigint) as export_down,
-        count(*) - 1 as corrections
-    from settled group by site, station, evse, starts;
-
--- Each difference that a later closing found in a period that was settled before: when, and what made it.
-create view correction as
-    select s.site, s.station, s.evse, s.starts, s.closing, c.closed_at, c.who, s.day, s.up, s.down, s.export_up,
-        s.export_down, s.why
-    from settled s join closing c on c.site = s.site and c.closing = s.closing
-    where exists (
-        select 1 from settled b where b.site = s.site and b.station = s.station and b.evse = s.evse
-        and b.starts = s.starts and b.closing < s.closing);
-
--- What a bill needs of each transaction: ids and token as sent, begin and end, registers and energy in kWh, findings.
-create view bill as
-    select s.site, s.station, s.transaction_id, s.sent_id, s.evse, s.token, s.token_type, s.remote_start_id, s.began,
-        s.ended, s.stopped_reason, s.complete, s.state,
-        round((s.up - s.down) / 1000000.0, 6) as imported_kwh,
-        round((s.export_up - s.export_down) / 1000000.0, 6) as exported_kwh,
-        s.first_register, s.last_register, s.first_export_register, s.last_export_register, s.signed,
-        (select /*sqlite group_concat(f.kind, '; ')*/ /*postgresql string_agg(f.kind, '; ')*/ from finding f
-            where f.station = s.station and f.transaction_id = s.transaction_id) as findings
-    from session s where s.events > 0;
-
 -- What was refused and changed nothing, messages of unknown stations included, by station, transaction, number and
 -- cause: how often, since when.
 create view refused as
     select coalesce(t.site, r.site) as site, r.station, r.transaction_id, r.sent_id, r.sent_number, r.number, r.cause,
-        r.what, r.advice, cast(sum(r.times) as bigint) as times, min(r.first_at) as first_at, max(r.last_at) as last_at
+        r.what, r.advice, cast(sum(r.times) as bigint) as times, min(r.first_at) as first_at, max(r.last_at) as last_at,
+        min(r.text) as text
     from (
-        select site, station, transaction_id, sent_id, sent_number, number, cause, what, advice, times, first_at, last_at
+        select site, station, transaction_id, sent_id, sent_number, number, cause, what, advice, times, first_at,
+            last_at, text
         from refusal
         union all
         select site, station, transaction_id, sent_id, cast(number as text), number, 'UnknownStation',
             'no station ''' || station || ''' is declared', 'declare the station, or name it in the file of stations',
-            times, first_at, last_at
+            times, first_at, last_at, text
         from stray) r
     left join station t on t.station = r.station
     group by coalesce(t.site, r.site), r.station, r.transaction_id, r.sent_id, r.sent_number, r.number, r.cause, r.what,
