@@ -41,9 +41,10 @@ from ocpp_board.commands.options import (
     add_zones,
     choose_program,
 )
-from ocpp_board.errors import UsageError
+from ocpp_board.errors import InputError, UsageError
 from ocpp_board.escapes import shown
 from ocpp_board.ledger.engine import Pool
+from ocpp_board.ledger.verify import verify
 from ocpp_board.limits import LONGEST_LINE
 from ocpp_board.messages.texts import Refused
 from ocpp_board.records import Asked, Message, Untaken
@@ -53,7 +54,7 @@ from ocpp_board.sources.forms import Shape, choose_shape
 from ocpp_board.sources.lines import FORMS as WORDS
 from ocpp_board.sources.log import LogReader
 from ocpp_board.sources.script import Declaration, ScriptReader
-from ocpp_board.sources.stations import StationPlan, add_rules, add_sites, add_utc, choose_plan
+from ocpp_board.sources.stations import OpenPlan, StationPlan, add_rules, add_sites, add_utc, choose_plan
 from ocpp_board.statuses import Status
 from ocpp_board.store.database import Database, open_store
 from ocpp_board.store.plan import Author
@@ -254,7 +255,7 @@ class Report:
     def __init__(self, options: Options, store: Database, pool: Pool | None) -> None:
         """Raises OSError and UsageError."""
         self.options, self.store, self.meter = options, store, Meter()
-        self.plan = StationPlan(options.wanted.plan)
+        self.plan = OpenPlan(options.wanted.plan)
         author = Author("report", f"read from {', '.join(options.logs)}"[:200])
         self.loader = Loader(store, options.wanted, author, pool)
         # Stations that the store has stay where they are.
@@ -447,9 +448,11 @@ def write_report(options: Options, store: Database, pool: Pool | None) -> int:
     report.read_all()
     log.info("%s", report.describe())
     report.meter.show("comparing the store with the program's boards")
-    verified = "not verified"
+    verified = verify(store, pool=pool)
     report.meter.end()
-    log.info("%s", verified)
+    if verified.difference:
+        raise InputError(f"the store is not as the program's boards are: {verified.difference}; no page is written")
+    log.info("verified: %s figures are those of the program's boards", f"{verified.figures:,}")
     tables = write_tables(store, options.out, options.tables)
     pages = write_pages(options, store)
     log.info("%s and %s are in %s", count_of(pages, "page"), count_of(tables, "table"), options.out)
@@ -458,10 +461,7 @@ def write_report(options: Options, store: Database, pool: Pool | None) -> int:
 
 def write_pages(options: Options, store: Database) -> int:
     """Writes the pages, and gives how many."""
-    try:
-        from ocpp_board.writers import pages
-    except ImportError:
-        return 0
+    from ocpp_board.writers import pages
 
     until = options.until or find_until(store)
     asked = pages.PageOptions(

@@ -170,7 +170,7 @@ class LogReader:
             moment, note = self.find_moment(entry)
         origin = f"{self.name}:{number}"
         came = entry.message if mends else ""
-        message = Message(station, text, moment, origin, site, ",".join(mends), came)
+        message = Message(station, text, moment, origin, site or None, ",".join(mends), came)
         return Read("messages", message, needs_time, note)
 
     def find_moment(self, entry: Entry) -> tuple[datetime | None, Refused | None]:

@@ -1,19 +1,11 @@
 """Where pages are: files beside each other, or addresses of a server."""
 
-import re
 from datetime import date
 from pathlib import PurePosixPath
 from typing import Protocol
 from urllib.parse import quote
 
-# What the name of a file or a folder has as it is; another character is written by its number.
-UNSAFE = re.compile(r"[^A-Za-z0-9_-]")
-
-
-def name_file(text: str) -> str:
-    """Names a file or a folder by a name of a site, a station or a transaction."""
-    return UNSAFE.sub(lambda one: f"%{ord(one[0]):02X}", text)
-
+from ocpp_board.writers.files import name_file
 
 class Links(Protocol):
     """The addresses of pages. `number`: that of a page of a list that has several, from 1 on."""
