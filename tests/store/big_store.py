@@ -60,22 +60,47 @@ def make_session(
     energies = [draw.randrange(1_000, 5_500) * 1_000 for _ in range(quarters)]
     ended = begin + quarters * QUARTER
     register = draw.randrange(10**9) * 1_000
-    session = {
-        **{"station": station, "transaction_id": tx, "site": site, "sent_id": tx.upper()},
-        **{"lines": quarters + 1, "events": quarters + 1 - lacks, "evse": draw.randrange(1, 3)},
-        **{"voided": 0, "first_number": 0, "last_number": quarters, "complete": not lacks},
-        **{"missing": int(lacks), "gaps": "3..3" if lacks else ""},
-        **{"up": sum(energies), "state": "numbers missing" if lacks else "complete"},
-        **{"began": began, "ended": ended, "first_at": began, "last_at": ended},
-        **{"first_register": register, "last_register": register + sum(energies)},
-        **{"stopped_reason": "EVDisconnected", "token": "04A2F7C9D1", "token_type": "ISO14443"},
-        **{"received_until": ended, "changed_at": ended},
+    session: dict[str, Any] = {
+        "station": station,
+        "transaction_id": tx,
+        "site": site,
+        "sent_id": tx.upper(),
+        "lines": quarters + 1,
+        "events": quarters + 1 - lacks,
+        "evse": draw.randrange(1, 3),
+        "voided": 0,
+        "first_number": 0,
+        "last_number": quarters,
+        "complete": not lacks,
+        "missing": int(lacks),
+        "gaps": "3..3" if lacks else "",
+        "up": sum(energies),
+        "state": "numbers missing" if lacks else "complete",
+        "began": began,
+        "ended": ended,
+        "first_at": began,
+        "last_at": ended,
+        "first_register": register,
+        "last_register": register + sum(energies),
+        "stopped_reason": "EVDisconnected",
+        "token": "04A2F7C9D1",
+        "token_type": "ISO14443",
+        "received_until": ended,
+        "changed_at": ended,
     }
-    parts = [
+    parts: list[dict[str, Any]] = [
         {
-            **{"station": station, "transaction_id": tx, "starts": begin + place * QUARTER},
-            **{"up": mwh, "down": 0, "export_up": 0, "export_down": 0, "on_board": True},
-            **{"measured": True, "shared": None, "numbers_missing": lacks and place == 3},
+            "station": station,
+            "transaction_id": tx,
+            "starts": begin + place * QUARTER,
+            "up": mwh,
+            "down": 0,
+            "export_up": 0,
+            "export_down": 0,
+            "on_board": True,
+            "measured": True,
+            "shared": None,
+            "numbers_missing": lacks and place == 3,
         }
         for place, mwh in enumerate(energies)
     ]
@@ -92,8 +117,12 @@ def make_lines(session: dict[str, Any], parts: list[dict[str, Any]]) -> Iterator
         wh += parts[number - 1]["up"] // 1_000 if number else 0
         text = write_message(session["station"], session["sent_id"], number, kind, at, wh)
         yield {
-            **{"station": session["station"], "transaction_id": session["transaction_id"]},
-            **{"number": number + 1, "received": at, "line": text, "origin": "big_store"},
+            "station": session["station"],
+            "transaction_id": session["transaction_id"],
+            "number": number + 1,
+            "received": at,
+            "line": text,
+            "origin": "big_store",
         }
 
 
@@ -167,14 +196,20 @@ def fill(
 def make_finding(session: dict[str, Any]) -> dict[str, Any]:
     """Makes a finding of a session."""
     return {
-        **{"station": session["station"], "transaction_id": session["transaction_id"]},
-        **{"kind": "clock goes back", "times": 1, "first_at": session["first_at"], "detail": ""},
+        "station": session["station"],
+        "transaction_id": session["transaction_id"],
+        "kind": "clock goes back",
+        "times": 1,
+        "first_at": session["first_at"],
+        "detail": "",
     }
 
 
 def main() -> None:
     """Makes the store that the words ask for."""
-    parser = argparse.ArgumentParser(description=__doc__, formatter_class=argparse.RawTextHelpFormatter)
+    parser = argparse.ArgumentParser(
+        description=__doc__, formatter_class=argparse.RawTextHelpFormatter
+    )
     parser.add_argument("store")
     for name, default in (("sites", 100), ("stations", 50), ("days", 365), ("sessions", 1)):
         parser.add_argument(f"--{name}", type=int, default=default)

@@ -80,7 +80,8 @@ Cell = str | int
 @dataclass(frozen=True)
 class TableOptions:
     """What tables have. `tokens`: how drivers' tokens are written; `raw`: texts from outside are there as they are;
-    `all_periods`: periods without energy are there, too; `first`, `last`: the days whose periods are there."""
+    `all_periods`: periods without energy are there, too; `first`, `last`: the days whose periods are there.
+    """
 
     tokens: str = "none"
     raw: bool = False

@@ -26,9 +26,9 @@ MOST_DAYS, MOST_SITE_DAYS, FEW_DAYS = 4_000, 12, 3
 
 @dataclass(frozen=True)
 class PageOptions:
-    """How pages are to be. `tokens`: how drivers' tokens are shown; `refresh`: the seconds after which a browser loads a
-    page again; `until`: up to when the data is, and `oldest`: how many seconds old it may be; `workers`: how many
-    processes write files."""
+    """How pages are to be. `tokens`: how drivers' tokens are shown; `refresh`: the seconds after which a browser loads
+    a page again; `until`: up to when the data is, and `oldest`: how many seconds old it may be; `written`: the moment
+    that pages name as theirs, or that of the writing; `workers`: how many processes write files."""
 
     tokens: str = NONE
     refresh: int | None = None
@@ -37,6 +37,7 @@ class PageOptions:
     first: date = date.min
     last: date = date.max
     workers: int = 1
+    written: datetime | None = None
 
 
 class DayFacts(NamedTuple):
@@ -81,7 +82,9 @@ class SiteDay:
         self.facts: dict[str, DayFacts] = {}
         self.drawn: dict[tuple[str, int], Markup] = {}
 
-    def put(self, station: str, periods: Sequence[Period], sessions: Sequence[SessionFacts]) -> None:
+    def put(
+        self, station: str, periods: Sequence[Period], sessions: Sequence[SessionFacts]
+    ) -> None:
         """Puts a station's periods and sessions there, in place of those before."""
         had = {p.start: p for p in self.stations.pop(station, ())}
         has = {p.start: p for p in periods}

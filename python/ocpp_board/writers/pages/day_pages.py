@@ -6,7 +6,7 @@ from datetime import date
 
 from markupsafe import Markup
 
-from ocpp_board.energies import kwh, sum_of
+from ocpp_board.energies import sum_of
 from ocpp_board.writers.calendar import Calendar
 from ocpp_board.writers.pages.cells import (
     TableRow,
@@ -46,9 +46,7 @@ def has_export(periods: Sequence[Period]) -> bool:
     return any(p.flow.export_up or p.flow.export_down for p in periods)
 
 
-def make_day(
-    whose: str, day: date, periods: Sequence[Period], calendar: Calendar
-) -> DayPart:
+def make_day(whose: str, day: date, periods: Sequence[Period], calendar: Calendar) -> DayPart:
     """Makes the picture and the table of a day."""
     exports = has_export(periods)
     flow = sum_of(p.flow for p in periods) if periods else None
@@ -73,9 +71,7 @@ def make_heads(calendar: Calendar, exports: bool) -> list[str]:
     return [f"Period ({calendar.name})", *utc, *name_flows(exports), "kW", "Figure"]
 
 
-def make_period_row(
-    p: Period, calendar: Calendar, exports: bool
-) -> tuple[str, Sequence[str], str]:
+def make_period_row(p: Period, calendar: Calendar, exports: bool) -> tuple[str, Sequence[str], str]:
     """Makes the row of a period: when it is, its other cells, and what is doubtful."""
     cells = [] if calendar.is_utc else [f"{p.start:%H:%M}"]
     cells += [*write_flow(p.flow, exports), write_kw(p.flow.net, p.seconds)]
@@ -97,9 +93,7 @@ def link_days(context: Context, site: Site, station: str | None, day: date) -> l
     before = calendar.day(at) if at else None
     for other, arrow in ((before, "\N{LEFTWARDS ARROW}"), (after, "\N{RIGHTWARDS ARROW}")):
         if other and context.is_shown(other):
-            found.append(
-                link(links.day(site.name, station, other), f"{arrow} {other} {other:%a}")
-            )
+            found.append(link(links.day(site.name, station, other), f"{arrow} {other} {other:%a}"))
     return found
 
 
@@ -121,9 +115,7 @@ def make_station_rows(
     return rows
 
 
-def make_day_page(
-    context: Context, site: Site, day: date, number: int = 1
-) -> tuple[Markup, int]:
+def make_day_page(context: Context, site: Site, day: date, number: int = 1) -> tuple[Markup, int]:
     """Makes the page of a day of a site, and says how many stations it has. `number`: that of the page of these."""
     calendar = context.calendar(site)
     known = context.book.read_day(site, day)
@@ -180,7 +172,9 @@ def make_station_day_page(context: Context, site: Site, station: str, day: date)
     findings = group_findings(context.reader.findings(site.name, station))
     columns, rows = make_session_table(shown, findings, calendar, context.links)
     lanes = group_lanes(sessions)
-    label = f"Sessions of station {station} on {day} by EVSE: {len(sessions):,}. The table has them."
+    label = (
+        f"Sessions of station {station} on {day} by EVSE: {len(sessions):,}. The table has them."
+    )
     return context.render(
         "station_day.html",
         f"Station {station},",

@@ -28,8 +28,14 @@ class Totals(NamedTuple):
 
     def plus(self, other: "Totals") -> "Totals":
         """Both together."""
-        counts = (one + more for one, more in zip(self[:5], other[:5]))
-        return Totals(*counts, self.flow.plus(other.flow))
+        return Totals(
+            self.transactions + other.transactions,
+            self.complete + other.complete,
+            self.events + other.events,
+            self.voided + other.voided,
+            self.missing + other.missing,
+            self.flow.plus(other.flow),
+        )
 
 
 class Period(NamedTuple):

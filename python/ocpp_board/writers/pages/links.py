@@ -7,6 +7,7 @@ from urllib.parse import quote
 
 from ocpp_board.writers.files import name_file
 
+
 class Links(Protocol):
     """The addresses of pages. `number`: that of a page of a list that has several, from 1 on."""
 

@@ -20,7 +20,14 @@ from ocpp_board.writers.pages.cells import (
     write_ranges,
 )
 from ocpp_board.writers.pages.context import Context
-from ocpp_board.writers.pages.facts import AnsweredDeed, Found, RefusedText, SessionFacts, Site, StationSummary
+from ocpp_board.writers.pages.facts import (
+    AnsweredDeed,
+    Found,
+    RefusedText,
+    SessionFacts,
+    Site,
+    StationSummary,
+)
 from ocpp_board.writers.pages.kinds import explain, find_place
 from ocpp_board.writers.pages.site_pages import (
     has_export,
@@ -93,9 +100,7 @@ def list_findings(context: Context, site: Site, _stations: Stations, first: int)
         session = link(links.session(site.name, one.station, tx), tx) if tx else UNKNOWN
         station = link(links.station(site.name, one.station), one.station)
         at = write_moment(calendar, one.first_at)
-        rows.append(
-            TableRow([station, session, one.kind, f"{one.times:,}", at, one.detail], MARK)
-        )
+        rows.append(TableRow([station, session, one.kind, f"{one.times:,}", at, one.detail], MARK))
     meanings = {one.kind: explain(one.kind) for one in some[:LIST_ROWS]}
     return Listing(FINDINGS, *split(rows), meanings)
 

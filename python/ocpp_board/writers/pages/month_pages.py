@@ -165,21 +165,18 @@ def make_day_rows(
         name = link(context.links.day(site.name, station, day), str(day))
         peak = write_kw(facts.peak.flow.net, facts.peak.seconds) if facts.peak else ""
         cells = [join([name, f"{day:%a}"], " "), *write_flow(facts.flow, exports)]
-        rows.append(
-            TableRow([*cells, f"{facts.periods:,}", peak, draw_bar(facts.flow.net, most)])
-        )
+        rows.append(TableRow([*cells, f"{facts.periods:,}", peak, draw_bar(facts.flow.net, most)]))
     return rows
 
 
-def make_weeks(
-    context: Context, site: Site, days: Mapping[date, DayFacts]
-) -> list[WeekPart]:
+def make_weeks(context: Context, site: Site, days: Mapping[date, DayFacts]) -> list[WeekPart]:
     """Makes the weeks of a month, the last one first."""
     calendar, found = context.calendar(site), list[WeekPart]()
     scale = Scale(hour.flow for facts in days.values() for hour in facts.hours)
     for monday, some in group_weeks(days):
         hours = [hour for day in some for hour in days[day].hours]
-        peaks = [facts.peak for day in some if (facts := days[day]).peak]
+        peaks = [p for day in some if (p := days[day].peak)]
+        peak = max(peaks, key=lambda p: p.flow.net, default=None)
         year, number, _ = monday.isocalendar()
         label = f"Bars of the hours of week {number}, from {monday} on. The table has the days."
         found.append(
@@ -187,12 +184,8 @@ def make_weeks(
                 f"Week {number} of {year}",
                 monday,
                 draw_week(label, monday, hours, scale, calendar),
-                kwh(sum((days[day].flow.net for day in some), 0)),
-                write_peak(
-                    max(filter(None, peaks), key=lambda p: p.flow.net, default=None),
-                    calendar,
-                    True,
-                ),
+                kwh(sum(days[day].flow.net for day in some)),
+                write_peak(peak, calendar, True),
             )
         )
     return found[::-1]
@@ -225,5 +218,3 @@ def make_month_page(
         month=part,
         weeks=make_weeks(context, site, part.days) if len(part.days) > 1 else [],
     )
-
-

@@ -120,7 +120,8 @@ def draw_week(
     width = round(ends[-1])
 
     def make_bar(p: Period) -> Bar:
-        said = f"{calendar.day(p.start):%a} {calendar.label(p.start)}: {kwh(p.flow.net)} kWh, {write_kw(p.flow.net, HOUR)} kW"
+        when = f"{calendar.day(p.start):%a} {calendar.label(p.start)}"
+        said = f"{when}: {kwh(p.flow.net)} kWh, {write_kw(p.flow.net, HOUR)} kW"
         return Bar(round(place(p.start)), p.seconds // UNIT, said, p)
 
     days = "".join(f"M{round(end)} {Scale.TOP}V{BOTTOM + 5}" for end in ends)

@@ -43,7 +43,8 @@ def make_flow(row: Row, at: int) -> Flow:
 
 def make_totals(row: Row) -> Totals:
     """Makes figures of the columns TOTALS."""
-    return Totals(*(int(value or 0) for value in row[:5]), make_flow(row, 5))
+    counts = [int(value or 0) for value in row[:5]]
+    return Totals(counts[0], counts[1], counts[2], counts[3], counts[4], make_flow(row, 5))
 
 
 def read_gaps(text: str) -> tuple[tuple[int, int], ...]:
@@ -60,28 +61,37 @@ def read_holes(text: str) -> tuple[tuple[datetime, datetime], ...]:
     return tuple((first, last) for first, last in pairs)
 
 
-def make_session(row: Row) -> SessionFacts:
+def pair_registers(first: int | None, last: int | None) -> tuple[int, int] | None:
+    """The first and the last reading of a register; None where there is none."""
+    return None if first is None or last is None else (first, last)
+
+
+def make_session(row: Any) -> SessionFacts:
     """Makes a session of the columns SESSION."""
-    registers = None if row[20] is None else (int(row[20]), int(row[21]))
-    exported = None if row[22] is None else (int(row[22]), int(row[23]))
     return SessionFacts(
-        row[0],
-        row[1],
-        row[2],
-        row[3] or row[1],
-        row[4] or 0,
-        row[5],
-        row[6],
-        row[7],
-        bool(row[8]),
-        row[9],
-        read_gaps(row[10] or ""),
-        make_flow(row, 11),
-        *row[15:20],
-        registers,
-        exported,
-        *row[24:27],
-        read_holes(row[27]),
+        row.station,
+        row.transaction_id,
+        row.site,
+        row.sent_id or row.transaction_id,
+        row.evse,
+        row.events,
+        row.first_number or 0,
+        row.last_number or 0,
+        row.complete,
+        row.missing,
+        read_gaps(row.gaps),
+        Flow(row.up, row.down, row.export_up, row.export_down),
+        row.state,
+        row.began,
+        row.ended,
+        row.first_at,
+        row.last_at,
+        pair_registers(row.first_register, row.last_register),
+        pair_registers(row.first_export_register, row.last_export_register),
+        row.stopped_reason,
+        row.token,
+        row.token_type,
+        read_holes(row.holes),
     )
 
 
@@ -171,7 +181,9 @@ class Reader:
         station and time serves."""
         found = dict[str, list[Period]]()
         for first in range(0, len(stations), MOST_NAMES):
-            names = {f"s{place}": one for place, one in enumerate(stations[first : first + MOST_NAMES])}
+            names = {
+                f"s{place}": one for place, one in enumerate(stations[first : first + MOST_NAMES])
+            }
             sql = (
                 f"select starts, {FLOWS}, estimated, lacks_numbers, station from board_period "
                 "where site = :site and starts >= :begin and starts < :end and station in "
@@ -187,7 +199,9 @@ class Reader:
         none."""
         found = list[datetime]()
         for name in ("first_at", "last_at"):
-            sql = f"select min({name}) as {name} from session where site = :site and {name} >= :since"
+            sql = (
+                f"select min({name}) as {name} from session where site = :site and {name} >= :since"
+            )
             rows = self.read_of(sql, site, station, "", since=since)
             found += [rows[0][0]] if rows[0][0] is not None else []
         return min(found, default=None)
@@ -197,7 +211,9 @@ class Reader:
         none."""
         found = list[datetime]()
         for name in ("first_at", "last_at"):
-            sql = f"select max({name}) as {name} from session where site = :site and {name} < :until"
+            sql = (
+                f"select max({name}) as {name} from session where site = :site and {name} < :until"
+            )
             rows = self.read_of(sql, site, station, "", until=until)
             found += [rows[0][0]] if rows[0][0] is not None else []
         return max(found, default=None)
@@ -271,9 +287,7 @@ class Reader:
 
     def lacks(self, site: str, station: str | None = None) -> list[Lack]:
         """The sessions of a site or of one of its stations that are not complete."""
-        sql = (
-            "select station, transaction_id, state, missing, first_at from lacking where site = :site"
-        )
+        sql = "select station, transaction_id, state, missing, first_at from lacking where site = :site"
         return [Lack(*row) for row in self.read_of(sql, site, station, "")]
 
     def lacking(self, site: str, count: int, skipped: int = 0) -> list[SessionFacts]:
@@ -304,7 +318,9 @@ class Reader:
 
     def count_refused(self, site: str) -> int:
         """How many messages of a site's stations changed nothing."""
-        rows = self.store.fetch("select sum(times) as times from refused where site = :site", site=site)
+        rows = self.store.fetch(
+            "select sum(times) as times from refused where site = :site", site=site
+        )
         return int(rows[0][0] or 0)
 
     def deeds(self, site: str, count: int, skipped: int = 0) -> list[AnsweredDeed]:
@@ -318,7 +334,9 @@ class Reader:
 
     def session_deeds(self, session: SessionFacts) -> list[AnsweredDeed]:
         """What operators did at a transaction, in the order of time."""
-        sql = f"select {DEED} from deed where station = :station and transaction_id = :tx order by at"
+        sql = (
+            f"select {DEED} from deed where station = :station and transaction_id = :tx order by at"
+        )
         values = {"station": session.station, "tx": session.transaction_id}
         return [AnsweredDeed(*row) for row in self.store.fetch(sql, **values)]
 

@@ -114,7 +114,9 @@ def make_rows(
 def write_end(end: Came) -> str:
     """Writes who voided or erased an event, and why."""
     done = {"void": "voided", "erase": "erased"}.get(end.word, end.word)
-    return f"{done} by {end.line.who or 'an operator'}" + (f": {end.line.why}" if end.line.why else "")
+    return f"{done} by {end.line.who or 'an operator'}" + (
+        f": {end.line.why}" if end.line.why else ""
+    )
 
 
 def find_ends(came: Sequence[Came]) -> dict[int, Came]:
@@ -194,7 +196,7 @@ def make_session_page(
         f"Session {session.sent_id}",
         calendar,
         context.lead_up(site, session.station),
-        state=session.state[:1].upper() + session.state[1:],
+        state=session.state[:1].upper() + session.state[1:] or "No event counts",
         figures=make_figures(session, calendar, context.options.tokens),
         doubts=[write_finding(one) for one in findings],
         meanings=dict.fromkeys(explain(one.kind) for one in findings),

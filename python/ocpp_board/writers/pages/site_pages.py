@@ -192,9 +192,7 @@ def link_months(
 ) -> list[Markup]:
     """Links to months, the last one first."""
     links = context.links
-    found = [
-        link(links.month(site.name, station, month), f"{month:%B %Y}") for month in months
-    ]
+    found = [link(links.month(site.name, station, month), f"{month:%B %Y}") for month in months]
     return found[::-1]
 
 
@@ -253,9 +251,7 @@ def make_station_columns(exports: bool) -> list[Column]:
     )
 
 
-def make_station_row(
-    context: Context, site: Site, one: StationSummary, exports: bool
-) -> TableRow:
+def make_station_row(context: Context, site: Site, one: StationSummary, exports: bool) -> TableRow:
     """Makes the row of a station."""
     totals = one.totals
     net, *flow = write_flow(totals.flow, exports)

@@ -26,9 +26,7 @@ def make_station_page(context: Context, site: Site, summary: StationSummary) -> 
     months = find_months(context, site, station)
     month = find_month(context, site, station, months[-1]) if months else None
     sessions = list_sessions(context, site, summary)
-    columns, rows = make_session_table(
-        sessions, group_findings(findings), calendar, context.links
-    )
+    columns, rows = make_session_table(sessions, group_findings(findings), calendar, context.links)
     evses = [
         TableRow(
             [

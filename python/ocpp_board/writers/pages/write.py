@@ -15,7 +15,7 @@ import os
 import re
 import time
 from collections import OrderedDict
-from collections.abc import Callable, Collection, Iterable, Iterator, Sequence
+from collections.abc import Callable, Collection, Iterable, Sequence
 from datetime import date, datetime, timedelta, timezone
 from pathlib import Path
 from typing import NamedTuple
@@ -27,7 +27,7 @@ from ocpp_board.writers.calendar import Calendar, find_calendar
 from ocpp_board.writers.pages.context import Context, DayBook, PageOptions
 from ocpp_board.writers.pages.day_pages import MOST_STATIONS, make_day_page, make_station_day_page
 from ocpp_board.writers.pages.facts import Found, SessionFacts, Site, StationSummary
-from ocpp_board.writers.pages.links import FileLinks, FilePaths, number_page
+from ocpp_board.writers.pages.links import FileLinks, FilePaths
 from ocpp_board.writers.pages.list_pages import LIST_ROWS, LISTS, make_list_page
 from ocpp_board.writers.pages.month_pages import find_days, find_months, make_month_page
 from ocpp_board.writers.pages.reader import Reader
@@ -71,7 +71,7 @@ class PageWriter:
         self.spans = OrderedDict[tuple[str, str], tuple[datetime, datetime]]()
         # By station and transaction, how much operators did there.
         self.deeds = dict[tuple[str, str], int]()
-        self.written = datetime.now(timezone.utc)
+        self.written = find_now(options)
         self.count = 0
 
     # Files ------------------------------------------------------------------------------------------------------------
@@ -104,7 +104,7 @@ class PageWriter:
     def write_all(self) -> int:
         """Writes all pages, removes those that are of nothing any more, and gives how many it wrote. Raises OSError."""
         self.count, begun = 0, time.time()
-        self.written = datetime.now(timezone.utc)
+        self.written = find_now(self.options)
         self.out.mkdir(parents=True, exist_ok=True)
         sites = self.reader.sites()
         parts = list[Share]()
@@ -173,10 +173,8 @@ class PageWriter:
         """Writes the pages of days."""
         for day in days:
             if station is not None:
-                self.write(
-                    PATHS.day(site.name, station, day),
-                    lambda context: make_station_day_page(context, site, station, day),
-                )
+                path = PATHS.day(site.name, station, day)
+                self.put(path, make_station_day_page(self.open_context(path), site, station, day))
                 continue
             number, pages = 1, 1
             while number <= pages:
@@ -208,7 +206,7 @@ class PageWriter:
 
     def write_changed(self, changed: Collection[Changed]) -> int:
         """Writes the pages of what changed, and gives how many. Raises OSError."""
-        self.count, self.written = 0, datetime.now(timezone.utc)
+        self.count, self.written = 0, find_now(self.options)
         self.book.made.clear()
         sites = {site.name: site for site in self.reader.sites()}
         places = dict[tuple[str, str], set[date]]()
@@ -284,7 +282,9 @@ class PageWriter:
         self.write_days(site, None, filter(self.is_shown, days))
         after = self.summaries.site(site.name)
         names = [*after]
-        places = {names.index(name) // LIST_ROWS for name in names if before.get(name) != after[name]}
+        places = {
+            names.index(name) // LIST_ROWS for name in names if before.get(name) != after[name]
+        }
         for place in sorted(places):
             self.write_list(site, "stations", place + 1, is_rest=names != [*before])
         if any(show_troubles(before.get(name)) != show_troubles(after[name]) for name in names):
@@ -308,6 +308,11 @@ class PageWriter:
 
 
 MOST_SPAN_LINES = 600
+
+
+def find_now(options: PageOptions) -> datetime:
+    """Finds the moment that pages name as that of their writing."""
+    return options.written or datetime.now(timezone.utc)
 
 
 def show_troubles(summary: StationSummary | None) -> object:
