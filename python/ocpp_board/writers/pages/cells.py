@@ -11,6 +11,7 @@ from ocpp_board.energies import MINUS, MWH_OF_A_KWH, Flow, kwh
 MARK = "mark"
 UNKNOWN = "\N{EN DASH}"
 HOUR = 3_600
+ROLES = ("table", "rowgroup", "row", "columnheader", "rowheader", "cell")
 # Ranges of missing numbers in a cell.
 MOST_RANGES = 20
 
@@ -112,3 +113,45 @@ def draw_bar(mwh: int, most: int) -> Markup:
     less = ' class="less"' if mwh < 0 else ""
     width = f"{100 * abs(mwh) / most if most else 0:.1f}"
     return Markup(f'<span{less} aria-hidden="true" style="width:{width}%"></span>')
+
+
+def write_table(
+    caption: str, columns: Sequence[Column], rows: Sequence[TableRow], kind: str = "cards"
+) -> Markup:
+    """Writes a table. On a phone the style makes a card of each row of a table of cards, and the roles keep it a
+    table."""
+    cards = kind == "cards"
+    roles = {name: f' role="{name}"' if cards else "" for name in ROLES}
+    heads = (
+        f'<th{roles["columnheader"]} scope="col"{name_class(column.kind)}>{write_head(column)}</th>'
+        for column in columns
+    )
+    cells = [
+        f'<td{roles["cell"]}{name_class(column.kind)}'
+        + (f' data-head="{escape(column.text)}"' if cards else "")
+        for column in columns[1:]
+    ]
+    texts = [
+        f'<table{roles["table"]} class="{kind}">\n<caption>{escape(caption)}</caption>\n',
+        f'<thead{roles["rowgroup"]}><tr{roles["row"]}>{"".join(heads)}</tr></thead>\n',
+        f'<tbody{roles["rowgroup"]}>\n',
+    ]
+    head = f'<th{roles["rowheader"]} scope="row">'
+    for row in rows:
+        texts.append(f'<tr{roles["row"]}{name_class(row.kind)}>{head}{escape(row.cells[0])}</th>')
+        texts += (f"{cell}>{escape(text)}</td>" for cell, text in zip(cells, row.cells[1:]))
+        texts.append("</tr>\n")
+    texts.append("</tbody>\n</table>\n")
+    return Markup("".join(texts))
+
+
+def name_class(kind: str) -> str:
+    """Names the class of a cell or a row that has one."""
+    return f' class="{kind}"' if kind else ""
+
+
+def write_head(column: Column) -> Markup:
+    """Writes the head of a column."""
+    if column.is_unseen:
+        return Markup('<span class="unseen">%s</span>') % column.text
+    return escape(column.text)

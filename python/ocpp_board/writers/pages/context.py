@@ -4,6 +4,7 @@ from collections import OrderedDict
 from collections.abc import Iterable, Mapping, Sequence
 from dataclasses import dataclass, field
 from datetime import date, datetime, timedelta, timezone
+from functools import reduce
 from typing import Any, NamedTuple
 
 from markupsafe import Markup
@@ -11,22 +12,23 @@ from markupsafe import Markup
 from ocpp_board.energies import Flow, sum_of
 from ocpp_board.writers.calendar import Calendar, find_calendar, next_month
 from ocpp_board.writers.pages.cells import link
-from ocpp_board.writers.pages.facts import Period, Site
+from ocpp_board.writers.pages.facts import Period, SessionFacts, Site
 from ocpp_board.writers.pages.links import Links
 from ocpp_board.writers.pages.months import join_hours
 from ocpp_board.writers.pages.reader import Reader
 from ocpp_board.writers.pages.render import render
 from ocpp_board.writers.tokens import NONE
 
-# Days that are kept where pages are written again.
-MOST_DAYS = 4_000
+# Days that are kept where pages are written again, days of sites with the periods of their stations, and how many days
+# are read one by one.
+MOST_DAYS, MOST_SITE_DAYS, FEW_DAYS = 4_000, 12, 3
 
 
 @dataclass(frozen=True)
 class PageOptions:
-    """How pages are to be. `tokens`: how drivers' tokens are shown; `refresh`: the seconds after which a browser loads a
-    page again; `until`: up to when the data is, and `oldest`: how many seconds old it may be; `workers`: how many
-    processes write files."""
+    """How pages are to be. `tokens`: how drivers' tokens are shown; `refresh`: the seconds after which a browser loads
+    a page again; `until`: up to when the data is, and `oldest`: how many seconds old it may be; `written`: the moment
+    that pages name as theirs, or that of the writing; `workers`: how many processes write files."""
 
     tokens: str = NONE
     refresh: int | None = None
@@ -35,6 +37,7 @@ class PageOptions:
     first: date = date.min
     last: date = date.max
     workers: int = 1
+    written: datetime | None = None
 
 
 class DayFacts(NamedTuple):
@@ -59,48 +62,152 @@ def find_peak(periods: Iterable[Period]) -> Period | None:
 
 def make_day(periods: Sequence[Period]) -> DayFacts:
     """Makes what is known of a day of its periods."""
+    if not periods:
+        return NO_DAY
     return DayFacts(
         join_hours(periods), sum_of(p.flow for p in periods), len(periods), find_peak(periods)
     )
 
 
+class SiteDay:
+    """A day of a site: the periods and the sessions of each station, and the periods of the site."""
+
+    def __init__(self) -> None:
+        self.stations: dict[str, Sequence[Period]] = {}
+        self.sessions: dict[str, Sequence[SessionFacts]] = {}
+        # By the starts of periods, those of stations and the site's.
+        self.starts: dict[datetime, dict[str, Period]] = {}
+        self.merged: dict[datetime, Period] = {}
+        # By station, its energy and its greatest power; by station and EVSE, its sessions as they are drawn.
+        self.facts: dict[str, DayFacts] = {}
+        self.drawn: dict[tuple[str, int], Markup] = {}
+
+    def put(
+        self, station: str, periods: Sequence[Period], sessions: Sequence[SessionFacts]
+    ) -> None:
+        """Puts a station's periods and sessions there, in place of those before."""
+        had = {p.start: p for p in self.stations.pop(station, ())}
+        has = {p.start: p for p in periods}
+        for start in had.keys() | has.keys():
+            if had.get(start) != has.get(start):
+                self.put_period(station, start, has.get(start))
+        self.sessions.pop(station, None)
+        if sessions:
+            self.sessions[station] = sessions
+        self.facts.pop(station, None)
+        if periods:
+            self.stations[station] = periods
+            self.facts[station] = make_day(periods)
+        for key in [key for key in self.drawn if key[0] == station]:
+            del self.drawn[key]
+
+    def put_period(self, station: str, start: datetime, period: Period | None) -> None:
+        """Puts a period of a station there, and sums the site's."""
+        there = self.starts.setdefault(start, {})
+        there.pop(station, None)
+        if period is not None:
+            there[station] = period
+        if there:
+            self.merged[start] = reduce(Period.plus, there.values())
+        else:
+            self.merged.pop(start, None)
+
+    def list_periods(self) -> list[Period]:
+        """Lists the periods of the site."""
+        return [self.merged[start] for start in sorted(self.merged)]
+
+    def list_sessions(self) -> list[SessionFacts]:
+        """Lists the sessions of the site."""
+        return [one for some in self.sessions.values() for one in some]
+
+
 class DayBook:
-    """Days of sites and stations. Where pages are written again, it keeps those that were read."""
+    """Days and months of sites and stations. Where pages are written again, it keeps those that were read."""
 
     def __init__(self, reader: Reader, keeps: bool = False) -> None:
         self.reader, self.keeps = reader, keeps
         self.kept = OrderedDict[DayKey, DayFacts]()
+        self.days = OrderedDict[tuple[str, date], SiteDay]()
+        # The months that a site or a station has, and what was made of them since the last change.
+        self.months = dict[tuple[str, str | None], list[date]]()
+        self.made = dict[tuple[str, str | None, date], Any]()
 
-    def drop(self, site: str, stations: Iterable[str | None], days: Iterable[date]) -> None:
-        """Forgets days that changed."""
+    def drop(self, site: Site, station: str, days: Iterable[date]) -> None:
+        """Forgets days of a station that changed."""
         for day in days:
-            for station in stations:
-                self.kept.pop((site, station, day), None)
+            self.kept.pop((site.name, None, day), None)
+            self.kept.pop((site.name, station, day), None)
+            known = self.days.get((site.name, day))
+            if known is not None:
+                self.read_stations(known, site, day, [station], station)
+        for key in ((site.name, None), (site.name, station)):
+            months = self.months.get(key)
+            if months is not None and not {day.replace(day=1) for day in days} <= {*months}:
+                del self.months[key]
 
-    def read_periods(
-        self, site: Site, station: str | None, begin: datetime, end: datetime
-    ) -> list[Period]:
-        """Reads the periods of a site or a station."""
+    def read_stations(
+        self, known: SiteDay, site: Site, day: date, names: Sequence[str], only: str | None
+    ) -> None:
+        """Reads stations of a site on a day. `only`: the one of which sessions are read; None for all."""
+        calendar = find_calendar(site.zone)
+        begin, end = calendar.begin(day), calendar.end(day)
+        periods = self.reader.day_periods(site, names, begin, end)
+        sessions = dict[str, list[SessionFacts]]()
+        for one in self.reader.day_sessions(site.name, begin, end, only):
+            sessions.setdefault(one.station, []).append(one)
+        for name in {*names, *sessions}:
+            known.put(name, periods.get(name, ()), sessions.get(name, ()))
+
+    def read_day(self, site: Site, day: date) -> SiteDay:
+        """Reads a day of a site."""
+        key = site.name, day
+        if key in self.days:
+            return self.days[key]
+        found = SiteDay()
+        self.read_stations(found, site, day, self.reader.site_stations(site.name), None)
+        if self.keeps:
+            self.days[key] = found
+            if len(self.days) > MOST_SITE_DAYS:
+                self.days.popitem(last=False)
+        return found
+
+    def read_periods(self, site: Site, station: str | None, day: date) -> Sequence[Period]:
+        """Reads the periods of a site or of a station on a day."""
         if station is None:
-            return self.reader.site_periods(site, begin, end)
-        return self.reader.station_periods(site, station, begin, end)
+            return self.read_day(site, day).list_periods()
+        if (site.name, day) in self.days:
+            return self.days[site.name, day].stations.get(station, [])
+        calendar = find_calendar(site.zone)
+        begin, end = calendar.begin(day), calendar.end(day)
+        return self.reader.day_periods(site, [station], begin, end).get(station, [])
 
     def month(self, site: Site, station: str | None, month: date) -> dict[date, DayFacts]:
         """The days of a month that have periods."""
-        calendar = find_calendar(site.zone)
         days, found = list_days(month), dict[date, DayFacts]()
         unknown = [day for day in days if (site.name, station, day) not in self.kept]
-        if unknown:
-            read = dict[date, list[Period]]()
-            begin, end = calendar.begin(unknown[0]), calendar.end(unknown[-1])
-            for p in self.read_periods(site, station, begin, end):
-                read.setdefault(calendar.day(p.start), []).append(p)
-            found = {day: make_day(read[day]) if day in read else NO_DAY for day in unknown}
+        if len(unknown) > FEW_DAYS:
+            found = self.read_month(site, station, unknown)
+        else:
+            found = {day: make_day(self.read_periods(site, station, day)) for day in unknown}
         for day in days:
             if day not in found:
                 found[day] = self.kept[site.name, station, day]
             self.keep((site.name, station, day), found[day])
         return {day: found[day] for day in days if found[day].periods}
+
+    def read_month(
+        self, site: Site, station: str | None, days: Sequence[date]
+    ) -> dict[date, DayFacts]:
+        """Reads days from the first to the last one."""
+        calendar, read = find_calendar(site.zone), dict[date, list[Period]]()
+        begin, end = calendar.begin(days[0]), calendar.end(days[-1])
+        if station is None:
+            periods = self.reader.site_periods(site, begin, end)
+        else:
+            periods = self.reader.day_periods(site, [station], begin, end).get(station, [])
+        for p in periods:
+            read.setdefault(calendar.day(p.start), []).append(p)
+        return {day: make_day(read[day]) if day in read else NO_DAY for day in days}
 
     def keep(self, key: DayKey, facts: DayFacts) -> None:
         """Keeps a day, and of too many those that were read last."""

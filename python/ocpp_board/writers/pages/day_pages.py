@@ -2,11 +2,11 @@
 
 from collections.abc import Sequence
 from dataclasses import dataclass
-from datetime import date, timedelta
+from datetime import date
 
 from markupsafe import Markup
 
-from ocpp_board.energies import kwh, sum_of
+from ocpp_board.energies import sum_of
 from ocpp_board.writers.calendar import Calendar
 from ocpp_board.writers.pages.cells import (
     TableRow,
@@ -17,8 +17,8 @@ from ocpp_board.writers.pages.cells import (
     write_flow,
     write_kw,
 )
-from ocpp_board.writers.pages.context import Context, find_peak
-from ocpp_board.writers.pages.facts import DaySum, Period, SessionFacts, Site
+from ocpp_board.writers.pages.context import Context, DayFacts, find_peak
+from ocpp_board.writers.pages.facts import Period, SessionFacts, Site
 from ocpp_board.writers.pages.lanes import MOST_LANES, draw_lanes, group_lanes
 from ocpp_board.writers.pages.month_pages import make_day_columns, write_peak
 from ocpp_board.writers.pages.pictures import Scale, draw_day
@@ -98,29 +98,32 @@ def link_days(context: Context, site: Site, station: str | None, day: date) -> l
 
 
 def make_station_rows(
-    context: Context, site: Site, day: date, sums: Sequence[DaySum], exports: bool
+    context: Context,
+    site: Site,
+    day: date,
+    stations: Sequence[tuple[str, DayFacts]],
+    exports: bool,
 ) -> list[TableRow]:
     """Makes the rows of a day's stations."""
-    most = max((abs(one.flow.net) for one in sums), default=0)
+    most = max((abs(facts.flow.net) for _, facts in stations), default=0)
     rows = list[TableRow]()
-    for one in sums:
-        name = link(context.links.day(site.name, one.station, day), one.station)
-        peak = write_kw(one.most, site.period) if one.most > 0 else ""
-        cells = [name, *write_flow(one.flow, exports), f"{one.periods:,}", peak]
-        rows.append(TableRow([*cells, draw_bar(one.flow.net, most)]))
+    for name, facts in stations:
+        kw = write_kw(facts.peak.flow.net, facts.peak.seconds) if facts.peak else ""
+        href = link(context.links.day(site.name, name, day), name)
+        cells = [href, *write_flow(facts.flow, exports), f"{facts.periods:,}", kw]
+        rows.append(TableRow([*cells, draw_bar(facts.flow.net, most)]))
     return rows
 
 
 def make_day_page(context: Context, site: Site, day: date, number: int = 1) -> tuple[Markup, int]:
     """Makes the page of a day of a site, and says how many stations it has. `number`: that of the page of these."""
     calendar = context.calendar(site)
-    begin, end = calendar.begin(day), calendar.end(day)
-    periods = context.book.read_periods(site, None, begin, end)
-    sums = list(context.reader.day_sums(site, begin, end).values())
-    exports = any(one.flow.export_up or one.flow.export_down for one in sums)
+    known = context.book.read_day(site, day)
+    stations, periods = known.facts, known.list_periods()
     first = (number - 1) * MOST_STATIONS
-    shown = sums[first : first + MOST_STATIONS]
-    sessions = context.reader.day_sessions(site.name, begin, end)
+    shown = sorted(stations.items())[first : first + MOST_STATIONS]
+    exports = has_export(periods)
+    sessions = known.list_sessions()
     lanes = group_lanes(sessions)
     label = f"Sessions of site {site.name} on {day} by EVSE: {len(sessions):,}. The table has the stations."
     page = context.render(
@@ -133,14 +136,14 @@ def make_day_page(context: Context, site: Site, day: date, number: int = 1) -> t
         hours=calendar.seconds(day) / 3600,
         day=day,
         part=make_day(f"Site {site.name}", day, periods, calendar),
-        lanes=draw_lanes(label, lanes, day, calendar, context.links) if lanes else "",
+        lanes=draw_lanes(label, lanes, day, calendar, context.links, known.drawn) if lanes else "",
         more_lanes=max(0, len(lanes) - MOST_LANES),
         columns=make_day_columns("Station", exports, 1),
         rows=make_station_rows(context, site, day, shown, exports),
-        pages=link_pages(context, site, day, len(sums)),
+        pages=link_pages(context, site, day, len(stations)),
         number=number,
     )
-    return page, len(sums)
+    return page, len(stations)
 
 
 def link_pages(context: Context, site: Site, day: date, count: int) -> list[str]:
@@ -149,18 +152,21 @@ def link_pages(context: Context, site: Site, day: date, count: int) -> list[str]
     return [context.links.day(site.name, None, day, one + 1) for one in range(pages) if pages > 1]
 
 
-def list_day_sessions(context: Context, site: Site, station: str, day: date) -> list[SessionFacts]:
+def list_day_sessions(
+    context: Context, site: Site, station: str, day: date
+) -> Sequence[SessionFacts]:
     """Lists the sessions of a station on a day."""
+    known = context.book.days.get((site.name, day))
+    if known is not None:
+        return known.sessions.get(station, ())
     calendar = context.calendar(site)
-    return context.reader.day_sessions(
-        site.name, calendar.begin(day), calendar.end(day) - timedelta(microseconds=1), station
-    )
+    return context.reader.day_sessions(site.name, calendar.begin(day), calendar.end(day), station)
 
 
 def make_station_day_page(context: Context, site: Site, station: str, day: date) -> Markup:
     """Makes the page of a day of a station."""
     calendar = context.calendar(site)
-    periods = context.book.read_periods(site, station, calendar.begin(day), calendar.end(day))
+    periods = context.book.read_periods(site, station, day)
     sessions = list_day_sessions(context, site, station, day)
     shown = sessions[:MOST_SESSIONS]
     findings = group_findings(context.reader.findings(site.name, station))
@@ -179,7 +185,7 @@ def make_station_day_page(context: Context, site: Site, station: str, day: date)
         hours=calendar.seconds(day) / 3600,
         day=day,
         part=make_day(f"Station {station}", day, periods, calendar),
-        lanes=draw_lanes(label, lanes, day, calendar, context.links) if lanes else "",
+        lanes=draw_lanes(label, lanes, day, calendar, context.links, {}) if lanes else "",
         columns=columns,
         rows=rows,
         more=len(sessions) - len(shown),

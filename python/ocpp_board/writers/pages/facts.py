@@ -1,6 +1,6 @@
 """What pages show, as the views of the store have it."""
 
-from datetime import datetime, timedelta
+from datetime import datetime
 from typing import NamedTuple
 
 from ocpp_board.energies import Flow
@@ -26,6 +26,17 @@ class Totals(NamedTuple):
     missing: int = 0
     flow: Flow = Flow()
 
+    def plus(self, other: "Totals") -> "Totals":
+        """Both together."""
+        return Totals(
+            self.transactions + other.transactions,
+            self.complete + other.complete,
+            self.events + other.events,
+            self.voided + other.voided,
+            self.missing + other.missing,
+            self.flow.plus(other.flow),
+        )
+
 
 class Period(NamedTuple):
     """A settlement period of a site or a station."""
@@ -36,10 +47,11 @@ class Period(NamedTuple):
     measured: bool = True
     numbers_missing: bool = False
 
-    @property
-    def end(self) -> datetime:
-        """Its end."""
-        return self.start + timedelta(seconds=self.seconds)
+    def plus(self, other: "Period") -> "Period":
+        """Both together."""
+        measured = self.measured and other.measured
+        missing = self.numbers_missing or other.numbers_missing
+        return Period(self.start, self.seconds, self.flow.plus(other.flow), measured, missing)
 
 
 class Found(NamedTuple):
@@ -164,12 +176,3 @@ class StationSummary(NamedTuple):
     troubles: tuple[Trouble, ...] = ()
     worst: tuple[Worst, ...] = ()
     doubtful: int = 0
-
-
-class DaySum(NamedTuple):
-    """A day of a station: its energy, how many periods there are, and the greatest net energy of one."""
-
-    station: str
-    flow: Flow
-    periods: int
-    most: int

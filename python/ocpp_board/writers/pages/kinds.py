@@ -38,7 +38,7 @@ def explain(name: str) -> str:
     """Explains a problem by its name."""
     if name in KINDS:
         return KINDS[name].meaning
-    return STATES.get(name) or OTHERS.get(name, "")
+    return STATES.get(name, OTHERS.get(name, ""))
 
 
 def is_wrong(name: str) -> bool:

@@ -4,26 +4,40 @@ from collections.abc import Iterable, Iterator, Sequence
 from datetime import date, datetime
 from typing import NamedTuple
 
-from markupsafe import Markup
+from markupsafe import Markup, escape
 
 from ocpp_board.energies import kwh
 from ocpp_board.writers.calendar import Calendar
 from ocpp_board.writers.pages.facts import SessionFacts
 from ocpp_board.writers.pages.links import Links
-from ocpp_board.writers.pages.pictures import UNIT, Text, list_hours, shorten, write_hours
+from ocpp_board.writers.pages.pictures import (
+    UNIT,
+    Text,
+    draw_paths,
+    list_hours,
+    shorten,
+    write_hours,
+)
 from ocpp_board.writers.pages.render import render
 
 # The height of a lane, and of the name above its bars.
 LANE, NAME = 16, 14
 # Lanes of a picture.
 MOST_LANES = 80
+MOVED = Markup('<g transform="translate(0,%d)">')
 
 
 class Lane(NamedTuple):
     """An EVSE of a station with its sessions of a day."""
 
-    name: str
+    station: str
+    evse: int
     sessions: list[SessionFacts]
+
+    @property
+    def name(self) -> str:
+        """What a reader calls it."""
+        return f"{self.station}, {f'EVSE {self.evse}' if self.evse else 'EVSE not named'}"
 
 
 def group_lanes(sessions: Iterable[SessionFacts]) -> list[Lane]:
@@ -31,10 +45,7 @@ def group_lanes(sessions: Iterable[SessionFacts]) -> list[Lane]:
     found: dict[tuple[str, int], list[SessionFacts]] = {}
     for session in sessions:
         found.setdefault((session.station, session.evse), []).append(session)
-    return [
-        Lane(f"{station}, {f'EVSE {evse}' if evse else 'EVSE not named'}", some)
-        for (station, evse), some in sorted(found.items())
-    ]
+    return [Lane(*key, some) for key, some in sorted(found.items())]
 
 
 def describe_session(session: SessionFacts, calendar: Calendar) -> str:
@@ -47,45 +58,62 @@ def describe_session(session: SessionFacts, calendar: Calendar) -> str:
 
 
 def draw_lanes(
-    label: str, lanes: Sequence[Lane], day: date, calendar: Calendar, links: Links
+    label: str,
+    lanes: Sequence[Lane],
+    day: date,
+    calendar: Calendar,
+    links: Links,
+    drawn: dict[tuple[str, int], Markup],
 ) -> Markup:
-    """Draws the lanes of a day, each under its name."""
+    """Draws the lanes of a day, each under its name. `drawn`: lanes that are drawn already, by station and EVSE."""
     some = lanes[:MOST_LANES]
-    begin, step = calendar.begin(day), LANE + NAME
     width = round(calendar.seconds(day) / UNIT)
+    step, hours = LANE + NAME, list_hours(calendar, day)
     height = step * len(some) + 20
+    ticks = "".join(f"M{round(x * width / 100)} 0V{height - 15}" for x, _ in hours)
+    shapes = [draw_paths([("grid", ticks)])]
+    for number, lane in enumerate(some):
+        key = lane.station, lane.evse
+        if key not in drawn:
+            drawn[key] = draw_lane(lane, day, calendar, links)
+        shapes.append(MOVED % (number * step + NAME) + drawn[key] + Markup("</g>"))
+    names = [Text("0", number * step + NAME - 3, lane.name) for number, lane in enumerate(some)]
+    return render(
+        "picture.html",
+        label=label,
+        width=width,
+        height=height,
+        drawn=height,
+        top=0,
+        shapes=Markup("").join(shapes),
+        texts=[*names, *write_hours(calendar, day, height)],
+    )
+
+
+def draw_lane(lane: Lane, day: date, calendar: Calendar, links: Links) -> Markup:
+    """Draws the sessions of a lane, each with a link to its page."""
+    begin, width = calendar.begin(day), round(calendar.seconds(day) / UNIT)
 
     def place(at: datetime) -> float:
         return min(max((at - begin).total_seconds() / UNIT, 0), width)
 
-    def draw(session: SessionFacts, y: int) -> Iterator[tuple[str, str, int, str]]:
+    def draw(session: SessionFacts) -> Iterator[str]:
         assert session.first_at and session.last_at
         left, right = place(session.first_at), place(session.last_at)
+        href = escape(links.session(session.site, session.station, session.transaction_id))
+        said = escape(describe_session(session, calendar))
+        yield f'<a href="{href}"><title>{said}</title>'
         kind = "there" if session.complete else "lacks"
-        yield kind, shorten(left), y, shorten(max(right - left, 4))
+        yield draw_rect(kind, left, max(right - left, 4))
         for hole in session.holes:
             start, end = (min(max(place(at), left), right) for at in hole)
             if end > start:
-                yield "gap", shorten(start), y, shorten(end - start)
+                yield draw_rect("gap", start, end - start)
+        yield "</a>"
 
-    sessions = [
-        (
-            links.session(session.site, session.station, session.transaction_id),
-            describe_session(session, calendar),
-            draw(session, number * step + NAME),
-        )
-        for number, lane in enumerate(some)
-        for session in lane.sessions
-    ]
-    hours = list_hours(calendar, day)
-    ticks = "".join(f"M{round(x * width / 100)} 0V{height - 15}" for x, _ in hours)
-    names = [Text("0", number * step + NAME - 3, lane.name) for number, lane in enumerate(some)]
-    return render(
-        "lanes.html",
-        label=label,
-        width=width,
-        height=height,
-        ticks=ticks,
-        sessions=sessions,
-        texts=[*names, *write_hours(calendar, day, height)],
-    )
+    return Markup("".join(text for session in lane.sessions for text in draw(session)))
+
+
+def draw_rect(kind: str, x: float, wide: float) -> str:
+    """Draws a bar of a lane."""
+    return f'<rect class="{kind}" x="{shorten(x)}" width="{shorten(wide)}" height="12"/>'

@@ -20,7 +20,7 @@ from ocpp_board.writers.pages.cells import (
     write_flow,
     write_kw,
 )
-from ocpp_board.writers.pages.context import NO_DAY, Context, DayFacts
+from ocpp_board.writers.pages.context import NO_DAY, Context, DayFacts, list_days
 from ocpp_board.writers.pages.facts import Period, Site
 from ocpp_board.writers.pages.months import draw_month, draw_week, group_weeks
 from ocpp_board.writers.pages.pictures import Scale
@@ -39,7 +39,7 @@ class MonthPart:
     columns: Sequence[Column]
     rows: Sequence[TableRow]
     said: str
-    href: str
+    days: Mapping[date, DayFacts]
 
 
 @dataclass(frozen=True)
@@ -55,9 +55,11 @@ class WeekPart:
 
 def find_months(context: Context, site: Site, station: str | None) -> list[date]:
     """Finds the months in which sessions of a site or a station began or ended, by their first days."""
+    known = context.book.months
+    if (site.name, station) in known:
+        return known[site.name, station]
     found, calendar = list[date](), context.calendar(site)
-    first = context.options.first
-    since = calendar.begin(max(first, date(2000, 1, 1)))
+    since = calendar.begin(max(context.options.first, date(2000, 1, 1)))
     while len(found) < MOST_MONTHS:
         at = context.reader.next_moment(site.name, station, since)
         if at is None or not context.is_shown(calendar.day(at)):
@@ -65,6 +67,8 @@ def find_months(context: Context, site: Site, station: str | None) -> list[date]
         month = calendar.day(at).replace(day=1)
         found.append(month)
         since = calendar.begin(next_month(month))
+    if context.book.keeps:
+        known[site.name, station] = found
     return found
 
 
@@ -77,16 +81,15 @@ def find_days(
         for day, facts in context.book.month(site, station, month).items()
         if context.is_shown(day)
     }
-    calendar = context.calendar(site)
-    since, end = calendar.begin(month), calendar.begin(next_month(month))
-    while since < end:
-        at = context.reader.next_moment(site.name, station, since)
-        if at is None or at >= end:
+    calendar, empty = context.calendar(site), list_days(month)
+    while empty := [day for day in empty if day not in known]:
+        at = context.reader.next_moment(site.name, station, calendar.begin(empty[0]))
+        if at is None or at >= calendar.end(empty[-1]):
             break
         day = calendar.day(at)
-        if context.is_shown(day):
-            known.setdefault(day, NO_DAY)
-        since = calendar.end(day)
+        if day in empty and context.is_shown(day):
+            known[day] = NO_DAY
+        empty = [one for one in empty if one > day]
     return dict(sorted(known.items()))
 
 
@@ -111,6 +114,17 @@ def write_peak(peak: Period | None, calendar: Calendar, has_day: bool = False) -
     return join([said, *day], " on ")
 
 
+def find_month(context: Context, site: Site, station: str | None, month: date) -> MonthPart | None:
+    """Finds what was made of a month, or makes it: the pages of a site or a station and of its month are in one folder,
+    so their links are alike. None where it has no days."""
+    key = site.name, station, month
+    made = context.book.made
+    if key not in made:
+        made[key] = make_month(context, site, station, month)
+    part: MonthPart | None = made[key]
+    return part
+
+
 def make_month(context: Context, site: Site, station: str | None, month: date) -> MonthPart | None:
     """Makes the heat map and the table of a month; None where it has no days."""
     days = find_days(context, site, station, month)
@@ -133,7 +147,7 @@ def make_month(context: Context, site: Site, station: str | None, month: date) -
         make_day_columns("Day", exports, 3),
         make_day_rows(context, site, station, days, exports),
         join(said, ", "),
-        context.links.month(site.name, station, month),
+        days,
     )
 
 
@@ -161,7 +175,8 @@ def make_weeks(context: Context, site: Site, days: Mapping[date, DayFacts]) -> l
     scale = Scale(hour.flow for facts in days.values() for hour in facts.hours)
     for monday, some in group_weeks(days):
         hours = [hour for day in some for hour in days[day].hours]
-        peaks = [facts.peak for day in some if (facts := days[day]).peak]
+        peaks = [p for day in some if (p := days[day].peak)]
+        peak = max(peaks, key=lambda p: p.flow.net, default=None)
         year, number, _ = monday.isocalendar()
         label = f"Bars of the hours of week {number}, from {monday} on. The table has the days."
         found.append(
@@ -169,12 +184,8 @@ def make_weeks(context: Context, site: Site, days: Mapping[date, DayFacts]) -> l
                 f"Week {number} of {year}",
                 monday,
                 draw_week(label, monday, hours, scale, calendar),
-                kwh(sum((days[day].flow.net for day in some), 0)),
-                write_peak(
-                    max(filter(None, peaks), key=lambda p: p.flow.net, default=None),
-                    calendar,
-                    True,
-                ),
+                kwh(sum(days[day].flow.net for day in some)),
+                write_peak(peak, calendar, True),
             )
         )
     return found[::-1]
@@ -184,10 +195,9 @@ def make_month_page(
     context: Context, site: Site, station: str | None, month: date
 ) -> Markup | None:
     """Makes the page of a month of a site or a station; None where it has no days."""
-    part = make_month(context, site, station, month)
+    part = find_month(context, site, station, month)
     if part is None:
         return None
-    days = find_days(context, site, station, month)
     whose = f"Site {site.name}" if station is None else f"Station {station}"
     months = find_months(context, site, station)
     place = months.index(month) if month in months else None
@@ -206,5 +216,5 @@ def make_month_page(
         f"{month:%B %Y}",
         steps=steps,
         month=part,
-        weeks=make_weeks(context, site, days) if len(days) > 1 else [],
+        weeks=make_weeks(context, site, part.days) if len(part.days) > 1 else [],
     )

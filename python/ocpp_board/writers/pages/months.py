@@ -3,7 +3,6 @@
 from collections.abc import Iterable, Iterator, Sequence
 from datetime import date, datetime, timedelta
 from itertools import groupby
-from typing import NamedTuple
 
 from markupsafe import Markup
 
@@ -59,15 +58,10 @@ def choose_shade(mwh: int, most: int) -> str:
     return f"heat {'fed' if mwh < 0 else 'heat'}{place}"
 
 
-class Cell(NamedTuple):
-    """A cell or a bar of a heat map, where it is, and what it shows to a pointer."""
-
-    kind: str
-    x: int
-    y: int
-    width: int | str
-    height: int
-    said: str
+def draw_cell(kind: str, x: int, y: int, width: int | str, height: int, said: str) -> str:
+    """Draws a cell or a bar of a heat map, which shows its value to a pointer."""
+    place = f'x="{x}" y="{y}" width="{width}" height="{height}"'
+    return f'<rect class="{kind}" {place}><title>{said}</title></rect>'
 
 
 def draw_month(
@@ -83,17 +77,17 @@ def draw_month(
     longest = max((abs(net) for net in nets.values()), default=0)
     height, wide = ROW * len(days), HOURS + SPACE + BARS
 
-    def cells() -> Iterator[Cell]:
+    def cells() -> Iterator[str]:
         for y, day in zip(range(0, height, ROW), days):
             for hour in range(HOURS):
                 flow = hours.get((day, hour))
                 if flow and flow.net:
                     said = f"{day:%a} {day} {hour:02}:00: {kwh(flow.net)} kWh"
-                    yield Cell(choose_shade(flow.net, most), hour, y, 1, ROW - 1, said)
+                    yield draw_cell(choose_shade(flow.net, most), hour, y, 1, ROW - 1, said)
             if net := nets[day]:
                 width, kind = shorten(BARS * abs(net) / longest), "out" if net < 0 else "there"
                 said = f"{day:%a} {day}: {kwh(net)} kWh"
-                yield Cell(kind, HOURS + SPACE, y + 2, width, ROW - 4, said)
+                yield draw_cell(kind, HOURS + SPACE, y + 2, width, ROW - 4, said)
 
     texts = [Text(f"{shorten(100 * hour / wide)}%", 12, f"{hour:02}:00") for hour in (0, 6, 12, 18)]
     texts.append(Text("100%", 12, "Day", "end"))
@@ -102,13 +96,13 @@ def draw_month(
     texts.append(Text("0", height + 32, f"Full shade: {kwh(most)} kWh an hour"))
     texts.append(Text("100%", height + 32, f"Longest: {kwh(longest)} kWh", "end"))
     return render(
-        "heat_map.html",
+        "picture.html",
         label=label,
         width=wide,
         height=height + 36,
         drawn=height,
         top=18,
-        cells=cells(),
+        shapes=Markup("".join(cells())),
         texts=texts,
     )
 
@@ -126,7 +120,8 @@ def draw_week(
     width = round(ends[-1])
 
     def make_bar(p: Period) -> Bar:
-        said = f"{calendar.day(p.start):%a} {calendar.label(p.start)}: {kwh(p.flow.net)} kWh, {write_kw(p.flow.net, HOUR)} kW"
+        when = f"{calendar.day(p.start):%a} {calendar.label(p.start)}"
+        said = f"{when}: {kwh(p.flow.net)} kWh, {write_kw(p.flow.net, HOUR)} kW"
         return Bar(round(place(p.start)), p.seconds // UNIT, said, p)
 
     days = "".join(f"M{round(end)} {Scale.TOP}V{BOTTOM + 5}" for end in ends)

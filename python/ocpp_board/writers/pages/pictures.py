@@ -155,8 +155,8 @@ def draw_bars(
     some: Sequence[Bar],
     below: Iterable[Text],
 ) -> Markup:
-    """Periods as bars, each with its value where the pointer is. They are as wide as the page lets them be, and letters
-    keep their size. `width`: in units; `grid`: paths of lines; `below`: the texts below."""
+    """Draws periods as bars, each with its value where the pointer is. They are as wide as the page lets them be, and
+    letters keep their size. `width`: in units; `grid`: paths of lines; `below`: the texts below."""
     kinds: dict[str, list[str]] = {}
     for one in some:
         for kind, path in draw_period(one.left, one.wide, one.period, scale):
@@ -164,15 +164,31 @@ def draw_bars(
     still = {"still": kinds.pop("still")} if "still" in kinds else {}
     kinds = kinds | {"zero": [f"M0 {shorten(scale.zero)}h{width}"]} | still
     marks = [Text("-5", shorten(scale.at(m) + 4), scale.label(m), "end") for m in scale.marks()]
+    paths = [*(("grid", path) for path in grid), *((k, "".join(p)) for k, p in kinds.items())]
     return render(
-        "bars.html",
+        "picture.html",
         label=label,
         width=width,
         height=PICTURE,
-        bottom=BOTTOM,
-        paths=[*(("grid", path) for path in grid), *((k, "".join(p)) for k, p in kinds.items())],
-        values=[one[:3] for one in some],
+        drawn=PICTURE,
+        top=0,
+        shapes=draw_paths(paths) + draw_hits(some),
         texts=[Text("-5", "9", scale.unit, "end"), *marks, *below],
+    )
+
+
+def draw_paths(paths: Iterable[tuple[str, str]]) -> Markup:
+    """Draws paths, each with its kind. They are made of numbers only."""
+    return Markup("".join(f'<path class="{kind}" d="{path}"/>' for kind, path in paths))
+
+
+def draw_hits(some: Iterable[Bar]) -> Markup:
+    """Draws what shows the values of bars to a pointer. They are made of numbers, names of days and units only."""
+    return Markup(
+        "".join(
+            f'<rect class="hit" x="{left}" width="{wide}" height="{BOTTOM}"><title>{said}</title></rect>'
+            for left, wide, said, _ in some
+        )
     )
 
 

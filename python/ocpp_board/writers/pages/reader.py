@@ -9,7 +9,6 @@ from ocpp_board.energies import Flow
 from ocpp_board.store.database import Database
 from ocpp_board.writers.pages.facts import (
     AnsweredDeed,
-    DaySum,
     Found,
     Lack,
     Period,
@@ -22,6 +21,8 @@ from ocpp_board.writers.pages.facts import (
 
 # The longest session that a day's page looks for.
 LONGEST = timedelta(days=62)
+# Stations that a statement names.
+MOST_NAMES = 500
 FLOWS = "up, down, export_up, export_down"
 TOTALS = f"transactions, complete_transactions, events, voided, missing, {FLOWS}"
 SESSION = (
@@ -42,7 +43,8 @@ def make_flow(row: Row, at: int) -> Flow:
 
 def make_totals(row: Row) -> Totals:
     """Makes figures of the columns TOTALS."""
-    return Totals(*(int(value or 0) for value in row[:5]), make_flow(row, 5))
+    counts = [int(value or 0) for value in row[:5]]
+    return Totals(counts[0], counts[1], counts[2], counts[3], counts[4], make_flow(row, 5))
 
 
 def read_gaps(text: str) -> tuple[tuple[int, int], ...]:
@@ -59,28 +61,37 @@ def read_holes(text: str) -> tuple[tuple[datetime, datetime], ...]:
     return tuple((first, last) for first, last in pairs)
 
 
-def make_session(row: Row) -> SessionFacts:
+def pair_registers(first: int | None, last: int | None) -> tuple[int, int] | None:
+    """The first and the last reading of a register; None where there is none."""
+    return None if first is None or last is None else (first, last)
+
+
+def make_session(row: Any) -> SessionFacts:
     """Makes a session of the columns SESSION."""
-    registers = None if row[20] is None else (int(row[20]), int(row[21]))
-    exported = None if row[22] is None else (int(row[22]), int(row[23]))
     return SessionFacts(
-        row[0],
-        row[1],
-        row[2],
-        row[3] or row[1],
-        row[4] or 0,
-        row[5],
-        row[6],
-        row[7],
-        bool(row[8]),
-        row[9],
-        read_gaps(row[10] or ""),
-        make_flow(row, 11),
-        *row[15:20],
-        registers,
-        exported,
-        *row[24:27],
-        read_holes(row[27]),
+        row.station,
+        row.transaction_id,
+        row.site,
+        row.sent_id or row.transaction_id,
+        row.evse,
+        row.events,
+        row.first_number or 0,
+        row.last_number or 0,
+        row.complete,
+        row.missing,
+        read_gaps(row.gaps),
+        Flow(row.up, row.down, row.export_up, row.export_down),
+        row.state,
+        row.began,
+        row.ended,
+        row.first_at,
+        row.last_at,
+        pair_registers(row.first_register, row.last_register),
+        pair_registers(row.first_export_register, row.last_export_register),
+        row.stopped_reason,
+        row.token,
+        row.token_type,
+        read_holes(row.holes),
     )
 
 
@@ -104,6 +115,13 @@ class Reader:
         )
         return [row[0] for row in rows]
 
+    def site_stations(self, site: str) -> list[str]:
+        """The stations that have transactions at a site, or that the plan has there."""
+        rows = self.store.fetch(
+            "select station from board_station where site = :site order by station", site=site
+        )
+        return [row[0] for row in rows]
+
     def station_sites(self, station: str) -> list[str]:
         """The sites that a station has been at."""
         rows = self.store.fetch(
@@ -123,11 +141,6 @@ class Reader:
         return rows[0][0] if rows else None
 
     # Figures ----------------------------------------------------------------------------------------------------------
-
-    def site_totals(self, site: str) -> Totals:
-        """The figures of a site."""
-        rows = self.store.fetch(f"select {TOTALS} from board_site where site = :site", site=site)
-        return make_totals(rows[0]) if rows else Totals()
 
     def station_totals(self, site: str, station: str | None = None) -> dict[str, Totals]:
         """The figures of a site's stations, or of one of them."""
@@ -161,29 +174,25 @@ class Reader:
         rows = self.store.fetch(sql, site=site.name, begin=begin, end=end)
         return [make_period(row, site.period) for row in rows]
 
-    def station_periods(
-        self, site: Site, station: str, begin: datetime, end: datetime
-    ) -> list[Period]:
-        """The periods of a station of a site from one moment to another."""
-        sql = (
-            f"select starts, {FLOWS}, estimated, lacks_numbers from board_period where site = :site "
-            "and station = :station and starts >= :begin and starts < :end order by starts"
-        )
-        rows = self.store.fetch(sql, site=site.name, station=station, begin=begin, end=end)
-        return [make_period(row, site.period) for row in rows]
-
-    def day_sums(
-        self, site: Site, begin: datetime, end: datetime, station: str | None = None
-    ) -> dict[str, DaySum]:
-        """The energies of stations from one moment to another."""
-        net = "up - down - export_up + export_down"
-        sql = (
-            "select station, sum(up), sum(down), sum(export_up), sum(export_down), count(*), "
-            f"max({net}) as most from board_period where site = :site and starts >= :begin and starts < :end"
-        )
-        rows = self.read_of(sql, site.name, station, " group by station", begin=begin, end=end)
-        found = [DaySum(row[0], make_flow(row, 1), row[5], int(row[6])) for row in rows]
-        return {one.station: one for one in sorted(found)}
+    def day_periods(
+        self, site: Site, stations: Sequence[str], begin: datetime, end: datetime
+    ) -> dict[str, list[Period]]:
+        """The periods of some stations of a site from one moment to another. Each station is named, so that an index by
+        station and time serves."""
+        found = dict[str, list[Period]]()
+        for first in range(0, len(stations), MOST_NAMES):
+            names = {
+                f"s{place}": one for place, one in enumerate(stations[first : first + MOST_NAMES])
+            }
+            sql = (
+                f"select starts, {FLOWS}, estimated, lacks_numbers, station from board_period "
+                "where site = :site and starts >= :begin and starts < :end and station in "
+                f"({', '.join(f':{name}' for name in names)}) order by starts"
+            )
+            rows = self.store.fetch(sql, site=site.name, begin=begin, end=end, **names)
+            for row in rows:
+                found.setdefault(row[7], []).append(make_period(row, site.period))
+        return found
 
     def next_moment(self, site: str, station: str | None, since: datetime) -> datetime | None:
         """The first moment from one on at which a session of a site or of a station began or ended; None where there is
@@ -330,6 +339,15 @@ class Reader:
         )
         values = {"station": session.station, "tx": session.transaction_id}
         return [AnsweredDeed(*row) for row in self.store.fetch(sql, **values)]
+
+    def count_deeds(self, station: str, transaction_id: str) -> int:
+        """How much operators did at a transaction."""
+        rows = self.store.fetch(
+            "select count(*) as times from deed where station = :station and transaction_id = :tx",
+            station=station,
+            tx=transaction_id,
+        )
+        return int(rows[0][0])
 
     def count_strays(self) -> int:
         """How many messages came of stations that no site has."""

@@ -7,6 +7,8 @@ from typing import Any
 from jinja2 import Environment, FileSystemLoader, StrictUndefined
 from markupsafe import Markup
 
+from ocpp_board.writers.pages.cells import write_table
+
 TEMPLATES = Path(__file__).resolve().parent / "templates"
 
 
@@ -23,7 +25,7 @@ def load_environment() -> Environment:
         auto_reload=False,
     )
     made.filters["number"] = "{:,}".format
-    made.globals["zip"] = zip
+    made.globals["table"] = write_table
     # The style never changes, so that each page takes its text as it is.
     made.globals["style"] = Markup((TEMPLATES / "style.css").read_text("utf-8").strip())
     return made

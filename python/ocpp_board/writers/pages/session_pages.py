@@ -196,7 +196,7 @@ def make_session_page(
         f"Session {session.sent_id}",
         calendar,
         context.lead_up(site, session.station),
-        state=session.state[:1].upper() + session.state[1:],
+        state=session.state[:1].upper() + session.state[1:] or "No event counts",
         figures=make_figures(session, calendar, context.options.tokens),
         doubts=[write_finding(one) for one in findings],
         meanings=dict.fromkeys(explain(one.kind) for one in findings),

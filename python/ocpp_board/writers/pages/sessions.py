@@ -49,7 +49,7 @@ def write_state(session: SessionFacts, findings: Sequence[Found]) -> Markup:
     """Writes whether a session is complete, what is missing of it, and what is doubtful."""
     doubts = [write_finding(one) for one in findings]
     if not session.gaps:
-        return stack(session.state, *doubts)
+        return stack(session.state or "no event counts", *doubts)
     missing = f"{count(session.missing, 'number')} missing: {write_ranges(session.gaps)}"
     strip = draw_strip(session.first_number, session.last_number, session.gaps)
     state = [] if session.state == "numbers missing" else [session.state]
@@ -92,7 +92,7 @@ def make_session_row(
     """Makes the row of a session; one that is not complete or doubtful is marked."""
     net, *others = write_flow(session.flow, has_export)
     href = links.session(session.site, session.station, session.transaction_id)
-    cells = [link(href, session.sent_id)]
+    cells: list[str] = [link(href, session.sent_id)]
     if has_station:
         cells.append(link(links.station(session.site, session.station), session.station))
     both = (
@@ -103,7 +103,9 @@ def make_session_row(
     cells += [str(session.evse) if session.evse else "not named", net]
     cells += [write_registers(session.registers), *others]
     numbers = f"{session.first_number} to {session.last_number}"
-    cells += [stack(numbers, count(session.events, "event")), session.stopped_reason or UNKNOWN]
+    events = count(session.events, "event")
+    cells += [stack(numbers, events) if session.events else UNKNOWN]
+    cells += [session.stopped_reason or UNKNOWN]
     return TableRow(cells, "" if session.complete and not findings else MARK)
 
 

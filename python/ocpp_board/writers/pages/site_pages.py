@@ -25,13 +25,14 @@ from ocpp_board.writers.pages.cells import (
 from ocpp_board.writers.pages.context import Context
 from ocpp_board.writers.pages.facts import Site, StationSummary, Totals
 from ocpp_board.writers.pages.kinds import NAMES, explain, find_place
-from ocpp_board.writers.pages.month_pages import find_months, make_month
+from ocpp_board.writers.pages.month_pages import find_month, find_months
 from ocpp_board.writers.pages.sessions import make_session_table
 from ocpp_board.writers.pages.summaries import (
     Summaries,
     is_troubled,
     order_stations,
     order_worst,
+    sum_totals,
 )
 
 # Stations and sessions on a site's page, and stations that a problem links to.
@@ -95,7 +96,7 @@ def read_site(context: Context, site: Site, summaries: Summaries) -> SiteFacts:
     refused = context.reader.count_refused(site.name)
     return SiteFacts(
         site,
-        context.reader.site_totals(site.name),
+        sum_totals(stations.values()),
         len(stations),
         sum(one.doubtful for one in stations.values()),
         refused,
@@ -144,9 +145,9 @@ def make_site_page(
 ) -> Markup:
     """Makes the page of a site. `refused`: how many messages of its stations changed nothing."""
     calendar = context.calendar(site)
-    totals = context.reader.site_totals(site.name)
+    totals = sum_totals(stations.values())
     months = find_months(context, site, None)
-    month = make_month(context, site, None, months[-1]) if months else None
+    month = find_month(context, site, None, months[-1]) if months else None
     order = sorted(stations.values(), key=order_stations)
     shown = order[:MOST_STATIONS]
     columns, sessions = make_worst(context, site, stations, calendar)

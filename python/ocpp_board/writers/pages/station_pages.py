@@ -8,7 +8,7 @@ from ocpp_board.writers.pages.cells import UNKNOWN, write_flow
 from ocpp_board.writers.pages.context import Context
 from ocpp_board.writers.pages.facts import Found, SessionFacts, Site, StationSummary
 from ocpp_board.writers.pages.kinds import explain
-from ocpp_board.writers.pages.month_pages import find_months, make_month
+from ocpp_board.writers.pages.month_pages import find_month, find_months
 from ocpp_board.writers.pages.sessions import group_findings, make_session_table
 from ocpp_board.writers.pages.site_pages import has_export, link_months, make_figures
 
@@ -24,7 +24,7 @@ def make_station_page(context: Context, site: Site, summary: StationSummary) -> 
     findings = context.reader.findings(site.name, station)
     of_station = [one for one in findings if not one.transaction_id]
     months = find_months(context, site, station)
-    month = make_month(context, site, station, months[-1]) if months else None
+    month = find_month(context, site, station, months[-1]) if months else None
     sessions = list_sessions(context, site, summary)
     columns, rows = make_session_table(sessions, group_findings(findings), calendar, context.links)
     evses = [

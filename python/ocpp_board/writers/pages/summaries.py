@@ -113,6 +113,14 @@ def list_doubtful(lacks: Iterable[Lack], found: dict[str, list[Found]]) -> Itera
             yield Worst(find_grave(some, None), at, some[0].station, tx, tuple(some))
 
 
+def sum_totals(stations: Iterable[StationSummary]) -> Totals:
+    """Sums the figures of stations."""
+    found = Totals()
+    for one in stations:
+        found = found.plus(one.totals)
+    return found
+
+
 def is_troubled(one: StationSummary) -> bool:
     """Whether something is wrong with a station."""
     return bool(one.troubles) or one.totals.complete < one.totals.transactions

@@ -15,7 +15,7 @@ import os
 import re
 import time
 from collections import OrderedDict
-from collections.abc import Callable, Collection, Iterable, Iterator, Sequence
+from collections.abc import Callable, Collection, Iterable, Sequence
 from datetime import date, datetime, timedelta, timezone
 from pathlib import Path
 from typing import NamedTuple
@@ -27,7 +27,7 @@ from ocpp_board.writers.calendar import Calendar, find_calendar
 from ocpp_board.writers.pages.context import Context, DayBook, PageOptions
 from ocpp_board.writers.pages.day_pages import MOST_STATIONS, make_day_page, make_station_day_page
 from ocpp_board.writers.pages.facts import Found, SessionFacts, Site, StationSummary
-from ocpp_board.writers.pages.links import FileLinks, FilePaths, number_page
+from ocpp_board.writers.pages.links import FileLinks, FilePaths
 from ocpp_board.writers.pages.list_pages import LIST_ROWS, LISTS, make_list_page
 from ocpp_board.writers.pages.month_pages import find_days, find_months, make_month_page
 from ocpp_board.writers.pages.reader import Reader
@@ -69,7 +69,9 @@ class PageWriter:
         self.facts: dict[str, SiteFacts] = {}
         # By station and transaction, from when to when it ran as its pages show it.
         self.spans = OrderedDict[tuple[str, str], tuple[datetime, datetime]]()
-        self.written = datetime.now(timezone.utc)
+        # By station and transaction, how much operators did there.
+        self.deeds = dict[tuple[str, str], int]()
+        self.written = find_now(options)
         self.count = 0
 
     # Files ------------------------------------------------------------------------------------------------------------
@@ -102,7 +104,7 @@ class PageWriter:
     def write_all(self) -> int:
         """Writes all pages, removes those that are of nothing any more, and gives how many it wrote. Raises OSError."""
         self.count, begun = 0, time.time()
-        self.written = datetime.now(timezone.utc)
+        self.written = find_now(self.options)
         self.out.mkdir(parents=True, exist_ok=True)
         sites = self.reader.sites()
         parts = list[Share]()
@@ -133,6 +135,7 @@ class PageWriter:
         for month in months:
             days = find_days(self.open_context("index.html"), site, station, month)
             self.write_days(site, station, days)
+        self.book.made.clear()
         if station is not None:
             findings = group_findings(self.reader.findings(site.name, station))
             for session in self.reader.station_sessions(site.name, station):
@@ -170,10 +173,8 @@ class PageWriter:
         """Writes the pages of days."""
         for day in days:
             if station is not None:
-                self.write(
-                    PATHS.day(site.name, station, day),
-                    lambda context: make_station_day_page(context, site, station, day),
-                )
+                path = PATHS.day(site.name, station, day)
+                self.put(path, make_station_day_page(self.open_context(path), site, station, day))
                 continue
             number, pages = 1, 1
             while number <= pages:
@@ -205,7 +206,8 @@ class PageWriter:
 
     def write_changed(self, changed: Collection[Changed]) -> int:
         """Writes the pages of what changed, and gives how many. Raises OSError."""
-        self.count, self.written = 0, datetime.now(timezone.utc)
+        self.count, self.written = 0, find_now(self.options)
+        self.book.made.clear()
         sites = {site.name: site for site in self.reader.sites()}
         places = dict[tuple[str, str], set[date]]()
         touched = set[str]()
@@ -221,7 +223,7 @@ class PageWriter:
             places.setdefault((session.site, station), set()).update(days)
         before = {name: dict(self.summaries.site(name)) for name in touched if name in sites}
         for (name, station), days in places.items():
-            self.book.drop(name, (None, station), days)
+            self.book.drop(sites[name], station, days)
             self.summaries.drop(name, [station])
         self.write_sessions(sites, changed)
         for (name, station), days in places.items():
@@ -290,8 +292,15 @@ class PageWriter:
             self.write_list(site, "lacking")
         if any(tx is None for _, tx in changed):
             self.write_list(site, "refused")
-        if any(tx is not None for _, tx in changed):
+        if any(self.has_deeds(station, tx) for station, tx in changed if tx is not None):
             self.write_list(site, "deeds")
+
+    def has_deeds(self, station: str, transaction_id: str) -> bool:
+        """Whether operators did something at a transaction since its page was written before."""
+        key = station, transaction_id
+        count = self.reader.count_deeds(station, transaction_id)
+        had, self.deeds[key] = self.deeds.get(key, 0), count
+        return count != had
 
     def is_shown(self, day: date) -> bool:
         """Whether a day is among those that are shown."""
@@ -299,6 +308,11 @@ class PageWriter:
 
 
 MOST_SPAN_LINES = 600
+
+
+def find_now(options: PageOptions) -> datetime:
+    """Finds the moment that pages name as that of their writing."""
+    return options.written or datetime.now(timezone.utc)
 
 
 def show_troubles(summary: StationSummary | None) -> object:
