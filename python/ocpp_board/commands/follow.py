@@ -40,8 +40,9 @@ from ocpp_board.commands.options import (
     add_zones,
     choose_program,
 )
-from ocpp_board.commands.report import Meter, count_of, open_pool
+from ocpp_board.commands.reading import Meter
 from ocpp_board.commands.renewing import Renewer, Shown
+from ocpp_board.commands.report import count_of, open_pool
 from ocpp_board.errors import InputError, OcppBoardError, StoreError, UsageError
 from ocpp_board.escapes import shown, without_controls
 from ocpp_board.ledger.engine import Pool, settle, take_strays
