@@ -1,6 +1,6 @@
 """The page of a day: of a site with its sessions by EVSE and its stations, or of one station with its sessions."""
 
-from collections.abc import Sequence
+from collections.abc import Iterable, Sequence
 from dataclasses import dataclass
 from datetime import date
 
@@ -18,7 +18,7 @@ from ocpp_board.writers.pages.cells import (
     write_kw,
 )
 from ocpp_board.writers.pages.context import Context, DayFacts, find_peak
-from ocpp_board.writers.pages.facts import Period, SessionFacts, Site
+from ocpp_board.writers.pages.facts import Found, Period, SessionFacts, Site
 from ocpp_board.writers.pages.lanes import MOST_LANES, draw_lanes, group_lanes
 from ocpp_board.writers.pages.month_pages import make_day_columns, write_peak
 from ocpp_board.writers.pages.pictures import Scale, draw_day
@@ -163,14 +163,15 @@ def list_day_sessions(
     return context.reader.day_sessions(site.name, calendar.begin(day), calendar.end(day), station)
 
 
-def make_station_day_page(context: Context, site: Site, station: str, day: date) -> Markup:
-    """Makes the page of a day of a station."""
+def make_station_day_page(
+    context: Context, site: Site, station: str, day: date, found: Iterable[Found]
+) -> Markup:
+    """Makes the page of a day of a station. `found`: the findings of the station."""
     calendar = context.calendar(site)
     periods = context.book.read_periods(site, station, day)
     sessions = list_day_sessions(context, site, station, day)
     shown = sessions[:MOST_SESSIONS]
-    findings = group_findings(context.reader.findings(site.name, station))
-    columns, rows = make_session_table(shown, findings, calendar, context.links)
+    columns, rows = make_session_table(shown, group_findings(found), calendar, context.links)
     lanes = group_lanes(sessions)
     label = (
         f"Sessions of station {station} on {day} by EVSE: {len(sessions):,}. The table has them."

@@ -169,10 +169,11 @@ class Worst(NamedTuple):
 
 class StationSummary(NamedTuple):
     """What a site's page shows of a station. `worst`: its sessions with troubles, the gravest and then the latest
-    first; `doubtful`: how many sessions have findings."""
+    first; `found`: all its findings; `doubtful`: how many sessions have some."""
 
     name: str
     totals: Totals = Totals()
     troubles: tuple[Trouble, ...] = ()
     worst: tuple[Worst, ...] = ()
     doubtful: int = 0
+    found: tuple[Found, ...] = ()

@@ -21,7 +21,7 @@ def make_station_page(context: Context, site: Site, summary: StationSummary) -> 
     """Makes the page of a station."""
     station, calendar = summary.name, context.calendar(site)
     exports = has_export(summary.totals)
-    findings = context.reader.findings(site.name, station)
+    findings = summary.found
     of_station = [one for one in findings if not one.transaction_id]
     months = find_months(context, site, station)
     month = find_month(context, site, station, months[-1]) if months else None

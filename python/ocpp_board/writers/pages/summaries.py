@@ -79,7 +79,9 @@ def summarize(
     troubles = tuple(Trouble(kind, sessions[kind], count) for kind, count in times.items())
     worst = [*list_lacking(lacks, by_session), *list_doubtful(lacks, by_session)]
     worst.sort(key=order_worst)
-    return StationSummary(name, totals, troubles, tuple(worst[:MOST_WORST]), len(by_session))
+    return StationSummary(
+        name, totals, troubles, tuple(worst[:MOST_WORST]), len(by_session), tuple(found)
+    )
 
 
 def order_worst(one: Worst) -> tuple[int, float, str]:

@@ -125,7 +125,7 @@ class PageWriter:
             for name in LISTS:
                 self.write_list(site, name)
         else:
-            summary = self.summaries.site(site.name)[station]
+            summary = self.find_summary(site, station)
             self.write(
                 PATHS.station(site.name, station),
                 lambda context: make_station_page(context, site, summary),
@@ -137,7 +137,7 @@ class PageWriter:
             self.write_days(site, station, days)
         self.book.made.clear()
         if station is not None:
-            findings = group_findings(self.reader.findings(site.name, station))
+            findings = group_findings(self.find_summary(site, station).found)
             for session in self.reader.station_sessions(site.name, station):
                 key = session.station, session.transaction_id
                 self.write_session(site, session, findings.get(key, ()))
@@ -171,10 +171,12 @@ class PageWriter:
 
     def write_days(self, site: Site, station: str | None, days: Iterable[date]) -> None:
         """Writes the pages of days."""
+        found = self.find_summary(site, station).found if station is not None else ()
         for day in days:
             if station is not None:
                 path = PATHS.day(site.name, station, day)
-                self.put(path, make_station_day_page(self.open_context(path), site, station, day))
+                context = self.open_context(path)
+                self.put(path, make_station_day_page(context, site, station, day, found))
                 continue
             number, pages = 1, 1
             while number <= pages:
@@ -182,6 +184,10 @@ class PageWriter:
                 page, count = make_day_page(self.open_context(path), site, day, number)
                 self.put(path, page)
                 number, pages = number + 1, -(-count // MOST_STATIONS)
+
+    def find_summary(self, site: Site, station: str) -> StationSummary:
+        """Finds the summary of a station."""
+        return self.summaries.site(site.name).get(station) or StationSummary(station)
 
     def write_list(self, site: Site, name: str, number: int = 1, is_rest: bool = True) -> None:
         """Writes the pages of a list of a site. `number`: the first one; `is_rest`: those behind it, too."""
@@ -210,41 +216,61 @@ class PageWriter:
         self.book.made.clear()
         sites = {site.name: site for site in self.reader.sites()}
         places = dict[tuple[str, str], set[date]]()
-        touched = set[str]()
         for station, transaction_id in dict.fromkeys(changed):
             if transaction_id is None:
-                touched.update(self.reader.station_sites(station))
+                for name in sites.keys() & {*self.reader.station_sites(station)}:
+                    places.setdefault((name, station), set())
                 continue
             session = self.reader.session(station, transaction_id)
-            if session is None or session.site not in sites:
-                continue
-            touched.add(session.site)
-            days = self.find_session_days(sites[session.site], session)
-            places.setdefault((session.site, station), set()).update(days)
-        before = {name: dict(self.summaries.site(name)) for name in touched if name in sites}
+            if session is not None and session.site in sites:
+                days = self.find_session_days(sites[session.site], session)
+                places.setdefault((session.site, station), set()).update(days)
+        touched = {name for name, _ in places}
+        before = {name: dict(self.summaries.site(name)) for name in touched}
         for (name, station), days in places.items():
             self.book.drop(sites[name], station, days)
             self.summaries.drop(name, [station])
-        self.write_sessions(sites, changed)
+        keys = {(station, tx) for station, tx in changed if tx is not None}
+        for (name, station), days in places.items():
+            keys |= self.find_doubted(sites[name], station, before[name], days)
+        self.write_sessions(sites, keys)
         for (name, station), days in places.items():
             self.write_station(sites[name], station, days)
-        for name in touched & sites.keys():
+        for name in touched:
             stations = {station for site, station in places if site == name}
             days = set[date]().union(*(places[name, station] for station in stations))
             self.write_site_changed(sites[name], days, before[name], changed)
-        if touched:
+        if changed:
             for name in touched:
                 self.facts.pop(name, None)
             self.write_index(sites.values())
         return self.count
 
-    def write_sessions(self, sites: dict[str, Site], changed: Collection[Changed]) -> None:
-        """Writes the pages of transactions that changed."""
-        for station, transaction_id in dict.fromkeys(changed):
-            session = transaction_id and self.reader.session(station, transaction_id)
-            if session and session.site in sites:
-                findings = self.reader.session_findings(session)
-                self.write_session(sites[session.site], session, findings)
+    def find_doubted(
+        self, site: Site, station: str, before: dict[str, StationSummary], days: set[date]
+    ) -> set[tuple[str, str]]:
+        """Finds the transactions of a station that have other findings than before, as those beside one that changed
+        may have, and adds their days."""
+        had = group_findings(before[station].found if station in before else ())
+        has = group_findings(self.find_summary(site, station).found)
+        keys = {key for key in had.keys() | has.keys() if had.get(key) != has.get(key)}
+        keys = {(station, tx) for station, tx in keys if tx}
+        for key in keys:
+            session = self.reader.session(*key)
+            if session is not None:
+                moments = [at for at in (session.first_at, session.last_at) if at]
+                days |= list_span(find_calendar(site.zone), moments)
+        return keys
+
+    def write_sessions(self, sites: dict[str, Site], keys: Iterable[tuple[str, str]]) -> None:
+        """Writes the pages of transactions."""
+        for station, transaction_id in sorted(keys):
+            session = self.reader.session(station, transaction_id)
+            if session is not None and session.site in sites:
+                found = group_findings(self.find_summary(sites[session.site], station).found)
+                self.write_session(
+                    sites[session.site], session, found.get((station, transaction_id), ())
+                )
 
     def find_session_days(self, site: Site, session: SessionFacts) -> set[date]:
         """Finds the days on whose pages a transaction is or was."""
@@ -261,7 +287,7 @@ class PageWriter:
 
     def write_station(self, site: Site, station: str, days: set[date]) -> None:
         """Writes the pages of a station that changed on these days."""
-        summary = self.summaries.site(site.name).get(station) or StationSummary(station)
+        summary = self.find_summary(site, station)
         self.write(
             PATHS.station(site.name, station),
             lambda context: make_station_page(context, site, summary),
