@@ -371,6 +371,14 @@ def open_store(name: str, is_durable: bool = True) -> Database:
     return database
 
 
+def open_again(store: Database) -> Database:
+    """Another connection to the same store, for another thread or process. Raises StoreError."""
+    if isinstance(store, SqliteDatabase):
+        return SqliteDatabase(store.path)
+    assert isinstance(store, PostgresDatabase)
+    return PostgresDatabase(store.url)
+
+
 def make_tables(database: SqliteDatabase | PostgresDatabase) -> None:
     """Makes the tables and views of a store that has none. Raises StoreError where it has those of another version."""
     if not has_table(database):
