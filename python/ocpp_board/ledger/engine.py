@@ -22,6 +22,7 @@ from ocpp_board.ledger.refusals import (
     describe_message,
     describe_stranger,
     describe_untaken,
+    digest_text,
     find_names,
     is_left_out,
     keep_text,
@@ -67,7 +68,7 @@ class Batch:
     sessions: dict[Key, list[int]] = field(default_factory=dict)
     refusals: list[tuple[Asked, Refusal, str]] = field(default_factory=list)
     strays: list[tuple[Message, Wish]] = field(default_factory=list)
-    # Messages of no transaction, by their places, and those that may have readings.
+    # Messages of no transaction, by their places, and those of them that may have readings.
     replied: dict[int, Message] = field(default_factory=dict)
     others: list[Message] = field(default_factory=list)
     # Messages that were mended, each with what it asks for.
@@ -98,7 +99,6 @@ def settle(
     if batch.sessions or batch.refusals or batch.others or batch.mended or also:
         with store.transaction():
             kept = write_batch(store, batch, pool, warm)
-            write_mended(store, batch)
             if also:
                 also(store)
         for key, one in kept.items() if warm else ():
@@ -162,6 +162,7 @@ def sort_message(batch: Batch, place: int, one: Message, wish: Wish) -> None:
     if wish.outcome == "event":
         batch.sessions.setdefault((one.station, wish.text), []).append(place)
         return
+    batch.replied[place] = one
     if wish.outcome == "silent":
         batch.answers[place] = Answer("silent")
         return
@@ -170,8 +171,6 @@ def sort_message(batch: Batch, place: int, one: Message, wish: Wish) -> None:
         batch.answers[place] = Answer("reply", "", wish.text)
         if '"MeterValues"' in one.text:
             batch.others.append(one)
-        else:
-            batch.replied[place] = one
         return
     reply = None if wish.outcome == "fault" else wish.text
     if is_left_out(one.text, cause):
@@ -184,12 +183,21 @@ def sort_message(batch: Batch, place: int, one: Message, wish: Wish) -> None:
 
 def find_strangers(store: Database, batch: Batch) -> None:
     """Notes messages of no transaction that are of stations that no site has."""
-    stations = sorted({one.station for one in batch.replied.values()})
-    sites = store_lines.find_sites(store, stations)
+    stations = {one.station for one in batch.replied.values()}
+    strangers = stations - store_lines.find_sites(store, sorted(stations)).keys()
+    if not strangers:
+        return
+    batch.refusals = [
+        one
+        for one in batch.refusals
+        if isinstance(one[0], Untaken) or one[0].station not in strangers
+    ]
+    kept = {id(one) for one in batch.others}
     for place, one in batch.replied.items():
-        if one.station not in sites:
-            batch.refusals.append((one, describe_stranger(one), ""))
+        if one.station in strangers:
             batch.answers[place] = Answer("stray", UNKNOWN_STATION, batch.answers[place].reply)
+            if id(one) not in kept:
+                batch.refusals.append((one, describe_stranger(one), ""))
 
 
 # Writing -------------------------------------------------------------------------------------------------------------
@@ -225,6 +233,7 @@ def write_batch(
     writer.write()
     write_refusals(store, batch)
     write_strays(store, batch)
+    write_mended(store, batch)
     write_levels(store, batch, sites)
     return writer.kept
 
@@ -464,17 +473,14 @@ def write_strays(store: Database, batch: Batch) -> None:
 
 
 def write_mended(store: Database, batch: Batch) -> None:
-    """Adds messages that were mended, as they came."""
-    statement = """insert into mended (station, digest, at, transaction_id, number, mends, came, origin)
-    values (:station, :digest, :at, :transaction, :number, :mends, :came, :origin)
-    on conflict (station, digest, at) do nothing"""
+    """Adds messages that were mended."""
     rows = [
         {
             "station": one.station,
-            "digest": Refusal("", "", "", "", "", one.came, None).digest,
-            "at": one.received or FIRST_MOMENT,
+            "digest": digest_text(one.came),
             "transaction": wish.text if wish.outcome == "event" else "",
             "number": wish.number if wish.outcome == "event" else None,
+            "at": one.received or find_names(one.text).at,
             "mends": one.mends,
             "came": keep_text(one.came),
             "origin": one.origin,
@@ -482,7 +488,7 @@ def write_mended(store: Database, batch: Batch) -> None:
         for one, wish in batch.mended
     ]
     if rows:
-        store.execute_each(statement, rows)
+        store.execute_each(store_lines.ADD_MENDED, rows)
 
 
 def write_levels(store: Database, batch: Batch, sites: dict[str, str]) -> None:

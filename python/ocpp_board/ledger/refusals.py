@@ -61,8 +61,12 @@ class Refusal(NamedTuple):
     @property
     def digest(self) -> str:
         """That of the text and of what is said of it."""
-        said = "\0".join((self.what, self.text)).encode("utf-8", "surrogatepass")
-        return hashlib.sha256(said).hexdigest()[:32]
+        return digest_text("\0".join((self.what, self.text)))
+
+
+def digest_text(text: str) -> str:
+    """A text's digest, by which it is known again."""
+    return hashlib.sha256(text.encode("utf-8", "surrogatepass")).hexdigest()[:32]
 
 
 def cut_name(value: Any) -> str:

@@ -64,6 +64,11 @@ values (:station, :digest, :site, :transaction, :number, :sent_id, :text, :at, :
 """ + COUNT_AGAIN.format(
     table="stray", key="digest", most=LONGEST_ORIGINS
 )
+ADD_MENDED = """
+insert into mended (station, digest, transaction_id, number, at, mends, came, origin)
+values (:station, :digest, :transaction, :number, :at, :mends, :came, :origin)
+on conflict (station, digest) do nothing
+"""
 ADD_DEED = """
 insert into deed (station, transaction_id, number, word, at, origin, who, why, outcome, name, count)
 values (:station, :transaction, :number, :word, :at, :origin, :who, :why, :outcome, :name, :count)

@@ -218,6 +218,19 @@ create table stray (
     last_at timestamptz,
     primary key (station, digest)
 );
+-- Messages that were mended before they were taken. `mends`: the faults; `came`: the text as the station sent it;
+-- `digest`: that of the text.
+create table mended (
+    station text /*postgresql collate "C"*/ not null,
+    digest text not null,
+    transaction_id text /*postgresql collate "C"*/ not null default '',
+    number bigint,
+    at timestamptz,
+    mends text not null,
+    came text not null,
+    origin text not null default '',
+    primary key (station, digest)
+) /*postgresql partition by hash (station)*/;
 -- Every operator's line with its answer. `at`: when it came, or 2000-01-01 where its source has no time.
 create table deed (
     station text /*postgresql collate "C"*/ not null,
@@ -240,16 +253,4 @@ create table source (
     front text not null default '',             -- by which the file is known again
     state text not null default '',
     read_at timestamptz
-);
--- Messages that were mended before they were settled: the faults, and the text as the station sent it.
-create table mended (
-    station text /*postgresql collate "C"*/ not null,
-    digest text not null,                       -- that of the text as it came
-    at timestamptz not null,                    -- when it came, or 2000-01-01 where its source has no time
-    transaction_id text /*postgresql collate "C"*/ not null default '',
-    number bigint,
-    mends text not null,
-    came text not null,
-    origin text not null default '',
-    primary key (station, digest, at)
 );
