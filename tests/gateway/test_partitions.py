@@ -76,7 +76,7 @@ def find_partitions(store: Database, tables: list[str], stations: list[str]) -> 
         for station in stations
         for row in store.fetch(
             f"select n from generate_series(0, {PARTITIONS - 1}) as n "
-            f"where satisfies_hash_partition('{table}'::regclass, {PARTITIONS}, n, :station)",
+            f"where satisfies_hash_partition('{table}'::regclass, {PARTITIONS}, n, cast(:station as text))",
             station=station,
         )
     }

@@ -213,6 +213,7 @@ def write_batch(
         store, {key: sites[key[0]] for key in batch.sessions if key[0] in sites}, warm
     )
     deeds = find_done(store, batch)
+    batch.answers |= deeds
     rules = find_all_rules(store, {one.site for one in held.values()})
     works = {
         key: Work(
@@ -361,7 +362,6 @@ def take_answers(
     for place in batch.sessions[key]:
         one = batch.asked[place]
         if place in deeds:
-            batch.answers[place] = deeds[place]
             continue
         answer = next(answers)
         batch.answers[place] = Answer(
