@@ -64,7 +64,6 @@ class Options:
     open: bool = False
     proxy: list[str] = field(default_factory=list)
     metrics: tuple[str, int] | None = None
-    program: str | None = None
 
 
 class Gateway:
@@ -73,8 +72,7 @@ class Gateway:
     def __init__(self, options: Options, files: Files) -> None:
         self.options = options
         self.name = f"{os.uname().nodename}-{os.getpid()}-{secrets.token_hex(4)}"
-        words = [options.store, *([options.program] if options.program else [])]
-        self.lanes = Lanes(words, options.lanes, options.patience)
+        self.lanes = Lanes([options.store], options.lanes, options.patience)
         self.clerk = Clerk(options.store)
         self.finder = Finder(self.clerk)
         self.find = self.finder.find
