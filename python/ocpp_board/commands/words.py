@@ -52,3 +52,12 @@ def add_semicolon(parser: argparse.ArgumentParser) -> None:
 def open_named(words: argparse.Namespace) -> Database:
     """The store that the words name."""
     return open_store(words.store)
+
+
+def add_program(parser: argparse.ArgumentParser) -> None:
+    """The option that names the proved program or its library."""
+    parser.add_argument(
+        "--program",
+        metavar="PATH",
+        help="the program or its library (default: that of this checkout, or else of the system)",
+    )
