@@ -6,6 +6,8 @@ import sys
 from collections.abc import Callable
 from enum import IntEnum
 
+from ocpp_board.errors import OcppBoardError
+
 log = logging.getLogger(__name__)
 
 
@@ -42,4 +44,8 @@ def ended(work: Callable[[], int]) -> int:
     except (OSError, UnicodeDecodeError, Mistaken) as fault:
         log.error("%s", fault)
         drop_output()
+    except OcppBoardError as fault:
+        log.error("%s", fault)
+        drop_output()
+        return fault.status
     return Status.MISTAKEN

@@ -1,0 +1,101 @@
+"""Options that several commands take."""
+
+import argparse
+import os
+from collections.abc import Mapping
+
+from ocpp_board.escapes import shown
+from ocpp_board.ledger.findings import MOST_KW
+from ocpp_board.ledger.program import LIBRARY_NAME, PROGRAM_NAME
+from ocpp_board.limits import is_name
+from ocpp_board.writers.tokens import TOKENS
+
+
+def add_store(parser: argparse.ArgumentParser, is_required: bool = True) -> None:
+    """The option that names the store."""
+    parser.add_argument(
+        "--store",
+        metavar="STORE",
+        required=is_required,
+        help="the store: a file, or postgresql://..",
+    )
+
+
+def add_program(parser: argparse.ArgumentParser) -> None:
+    """The option that names the proved program."""
+    parser.add_argument(
+        "--program",
+        metavar="PATH",
+        help="the proved program, or its library (default: the library of this system or of crates/*/out of this "
+        "checkout, or else the program)",
+    )
+
+
+def choose_program(path: str | None) -> None:
+    """Has this process and those that it starts run the program or the library of this path."""
+    if path:
+        os.environ.pop(PROGRAM_NAME, None)
+        os.environ[LIBRARY_NAME if ".so" in os.path.basename(path) else PROGRAM_NAME] = path
+
+
+def read_power(text: str) -> int:
+    """A power in whole kW."""
+    if not text.isdecimal() or not 1 <= int(text) <= 100_000:
+        raise argparse.ArgumentTypeError(f"no power from 1 to 100000 kW: {text!r}")
+    return int(text)
+
+
+def add_power(parser: argparse.ArgumentParser) -> None:
+    """The option that says which power can be."""
+    parser.add_argument(
+        "--most-kw",
+        metavar="KW",
+        type=read_power,
+        help=f"the greatest power of an EVSE: what is above is a finding (default: {MOST_KW})",
+    )
+
+
+def add_tokens(parser: argparse.ArgumentParser) -> None:
+    """The option that says how drivers' tokens are written."""
+    parser.add_argument(
+        "--tokens",
+        choices=TOKENS,
+        default=TOKENS[0],
+        help="how drivers' tokens are written in tables and on pages: not at all, since they are personal, as the "
+        "SHA-256 of their small letters, or plain (default: none)",
+    )
+
+
+def read_zone(text: str) -> tuple[str, str]:
+    """A site and its time zone; without a site of all others."""
+    from zoneinfo import ZoneInfo
+
+    site, _, name = text.rpartition("=")
+    if "=" in text and not is_name(site):
+        raise argparse.ArgumentTypeError(f"no name of a site: {shown(text)}")
+    try:
+        ZoneInfo(name)
+    except (KeyError, ValueError, OSError):
+        raise argparse.ArgumentTypeError(
+            f"no time zone of this system: {name!r} (Debian: package tzdata)"
+        ) from None
+    return site, name
+
+
+def add_zones(parser: argparse.ArgumentParser) -> None:
+    """The option that says in which zone a site has its days."""
+    parser.add_argument(
+        "--tz",
+        dest="zones",
+        metavar="[SITE=]ZONE",
+        type=read_zone,
+        action="append",
+        default=[],
+        help="the time zone of a site's days and hours, or of all sites that are not named so, such as Europe/Berlin "
+        "(default: UTC)",
+    )
+
+
+def find_by_site(asked: Mapping[str, str], site: str) -> str | None:
+    """What is asked of a site; None where nothing is."""
+    return asked.get(site, asked.get(""))
