@@ -5,6 +5,7 @@ import os
 import pwd
 import shutil
 import subprocess
+import sys
 from collections.abc import Iterator
 from datetime import datetime, timedelta, timezone
 from pathlib import Path
@@ -80,14 +81,22 @@ def write_message(sent: Sent) -> str:
     return json.dumps([2, "m", sent.action, sent.payload], separators=(",", ":"))
 
 
-def send(store: Database, station: str, session: Session) -> list[Answer]:
-    """Settles the messages of a session."""
+def send(store: Database, station: str, *sessions: Session) -> list[Answer]:
+    """Settles the messages of sessions."""
     return settle(
         store,
         [
-            Message(station, write_message(one), one.received, f"log:{number}")
-            for number, one in enumerate(session, 1)
+            Message(station, write_message(one), one.received, "a log")
+            for session in sessions
+            for one in session
         ],
+    )
+
+
+def run(*words: str) -> "subprocess.CompletedProcess[str]":
+    """Runs a command of `ocpp-board`."""
+    return subprocess.run(
+        [sys.executable, "-m", "ocpp_board", *words], capture_output=True, text=True, check=False
     )
 
 

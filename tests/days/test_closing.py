@@ -10,7 +10,6 @@ from datetime import date, datetime, timedelta, timezone
 
 import pytest
 
-from ocpp_board.cli import main
 from ocpp_board.commands.corrections import list_rows
 from ocpp_board.errors import InputError, UsageError
 from ocpp_board.ledger.answers import AnswerReader, BoardPart
@@ -20,7 +19,7 @@ from ocpp_board.records import Rules
 from ocpp_board.store import closing
 from ocpp_board.store.closing import Closing, close_day, end_day
 from ocpp_board.store.database import Database, open_store
-from tests.days.conftest import AUTHOR, SITE, ZONE, operate, read_noon, send
+from tests.days.conftest import AUTHOR, SITE, ZONE, operate, read_noon, run, send
 from tests.traffic.troubles import STEP, Session, event, sound
 
 Figures = dict[tuple[str, datetime], tuple[int, ...]]
@@ -186,8 +185,7 @@ def close_once(name: str, ready: "multiprocessing.synchronize.Barrier") -> None:
 
 
 def test_two_closings_at_once_close_once(store: Database, name: str) -> None:
-    for number in range(40):
-        send(store, "AB"[number % 2], sound(f"t{number}", morning(1) + number * timedelta(minutes=5)))
+    send(store, "A", *(sound(f"t{number}", morning(1) + number * STEP) for number in range(40)))
     context = multiprocessing.get_context("spawn")
     ready = context.Barrier(3)
     closings = [context.Process(target=close_once, args=(name, ready)) for _ in range(3)]
@@ -231,7 +229,7 @@ def write_many(name: str, ready: "multiprocessing.synchronize.Barrier") -> None:
     """Settles sessions while another process closes."""
     with open_store(name) as store:
         ready.wait()
-        for number in range(60):
+        for number in range(8):
             send(store, "A", sound(f"t{number}", morning(1) + number * timedelta(minutes=3)))
 
 
@@ -247,7 +245,7 @@ def test_what_comes_during_closings_is_settled_once(store: Database, name: str) 
     writer.join()
     close(store, "2026-03-01")
     sums = store.fetch("select cast(sum(up) as bigint) as up from closed_part")
-    assert sums[0].up == 60 * 750_000
+    assert sums[0].up == 8 * 750_000
 
 
 def test_corrections_name_their_lines(store: Database) -> None:
@@ -264,19 +262,33 @@ def test_corrections_name_their_lines(store: Database) -> None:
     assert len(list(list_rows(store, SITE, date(2026, 3, 4)))) == 1
 
 
-def test_the_commands(store: Database, name: str, capsys: pytest.CaptureFixture[str]) -> None:
+def test_the_commands(store: Database, name: str) -> None:
     late: Session = sound("t1", morning(1))
     send(store, "A", late[:3])
-    words = ["close-day", "--store", name, "--site", SITE, "--who", "jo"]
-    assert main([*words, "--day", "2026-03-01"]) == 0
-    assert "closing 1 of north up to 2026-03-01: 1 sessions" in capsys.readouterr().out
-    assert main([*words, "--day", "2026-03-01"]) == 0
-    assert "nothing changed since" in capsys.readouterr().out
+    words = ["close-day", "--store", name, "--site", SITE, "--who", "jo", "--day", "2026-03-01"]
+    assert "closing 1 of north up to 2026-03-01: 1 sessions" in run(*words).stdout
+    assert "nothing changed since" in run(*words).stdout
     send(store, "A", late[3:])
-    assert main([*words, "--day", "2026-03-01"]) == 0
-    capsys.readouterr()
-    assert main(["corrections", "--store", name, "--site", SITE, "--since", "2026-01-01"]) == 0
-    rows = list(csv.DictReader(io.StringIO(capsys.readouterr().out)))
+    assert run(*words).returncode == 0
+    made = run("corrections", "--store", name, "--site", SITE, "--since", "2026-01-01")
+    rows = list(csv.DictReader(io.StringIO(made.stdout)))
     assert [row["imported_kwh"] for row in rows] == ["0.25"]
-    assert main(["close-day", "--store", name, "--site", "south", "--who", "jo"]) == 2
-    assert "no site 'south'" in capsys.readouterr().err
+
+
+@pytest.mark.parametrize(
+    ("words", "said"),
+    [
+        (["close-day", "--site", "south", "--who", "jo"], "no site 'south'"),
+        (["close-day", "--site", SITE, "--who", "jo", "--day", "2026-02-30"], "no day such as"),
+        (["close-day", "--site", SITE, "--who", "jo", "--day", "2090-01-01"], "is not over at north"),
+        (["close-day", "--site", SITE], "--who"),
+        (["corrections", "--site", "south", "--since", "2026-03-01"], "no site 'south'"),
+        (["corrections", "--site", SITE, "--since", "March"], "no day such as"),
+    ],
+)
+def test_wrong_words_have_a_named_error(
+    store: Database, name: str, words: list[str], said: str
+) -> None:
+    made = run(words[0], "--store", name, *words[1:])
+    assert (made.returncode, made.stdout) == (2, "")
+    assert said in made.stderr

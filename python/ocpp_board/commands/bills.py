@@ -32,11 +32,10 @@ import argparse
 import sys
 from pathlib import Path
 
-from ocpp_board.commands.words import add_semicolon, add_site, add_store, add_tokens, open_named
+from ocpp_board.commands.options import add_form, add_site, add_store, add_tokens
 from ocpp_board.statuses import Status
+from ocpp_board.store.database import open_store
 from ocpp_board.writers.bills import BillOptions, list_bills, read_month, write_csv
-
-NAME, ABOUT = "bills", "writes a site's month of sessions as CSV, for billing"
 
 
 def add_words(parser: argparse.ArgumentParser) -> None:
@@ -44,7 +43,7 @@ def add_words(parser: argparse.ArgumentParser) -> None:
     add_store(parser)
     add_site(parser)
     add_tokens(parser)
-    add_semicolon(parser)
+    add_form(parser)
     parser.add_argument("--month", required=True, help="such as 2026-03")
     parser.add_argument(
         "--signed", type=Path, metavar="FOLDER", help="write the files of signed values there"
@@ -53,9 +52,9 @@ def add_words(parser: argparse.ArgumentParser) -> None:
 
 def run(words: argparse.Namespace) -> int:
     """Writes the month to standard output."""
-    options = BillOptions(words.tokens, words.csv == "semicolon", words.signed)
+    options = BillOptions(words.tokens, words.form == "semicolon", words.signed)
     year, month = read_month(words.month)
-    with open_named(words) as store:
+    with open_store(words.store) as store:
         rows = list_bills(store, words.site, year, month, options)
-        write_csv(rows, sys.stdout, words.csv == "semicolon")
+        write_csv(rows, sys.stdout, words.form == "semicolon")
     return Status.DONE

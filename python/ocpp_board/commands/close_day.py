@@ -10,21 +10,11 @@ its period, its order of readings, its rule of settling and its zone.
 """
 
 import argparse
-from datetime import date
 
-from ocpp_board.commands.words import add_site, add_store, add_who, open_named
-from ocpp_board.store.closing import Closing, close_day
+from ocpp_board.commands.options import add_site, add_store, add_who, read_day
 from ocpp_board.statuses import Status
-
-NAME, ABOUT = "close-day", "freezes a site's figures up to a day's end"
-
-
-def read_day(text: str) -> date:
-    """A day of the command line. Raises ArgumentTypeError."""
-    try:
-        return date.fromisoformat(text)
-    except ValueError:
-        raise argparse.ArgumentTypeError(f"{text!r} is no day such as 2026-03-01") from None
+from ocpp_board.store.closing import Closing, close_day
+from ocpp_board.store.database import open_store
 
 
 def add_words(parser: argparse.ArgumentParser) -> None:
@@ -47,6 +37,6 @@ def describe(closing: Closing) -> str:
 
 def run(words: argparse.Namespace) -> int:
     """Closes the day."""
-    with open_named(words) as store:
+    with open_store(words.store) as store:
         print(describe(close_day(store, words.site, words.day, words.who)))
     return Status.DONE

@@ -13,15 +13,13 @@ from collections.abc import Iterator
 from datetime import date, datetime, time, timezone
 from zoneinfo import ZoneInfo
 
-from ocpp_board.commands.close_day import read_day
-from ocpp_board.commands.words import add_semicolon, add_site, add_store, open_named
+from ocpp_board.commands.options import add_form, add_site, add_store, read_day
 from ocpp_board.escapes import csv_cell
 from ocpp_board.statuses import Status
 from ocpp_board.store.closing import list_causes, list_corrections
-from ocpp_board.store.database import Database, Row
+from ocpp_board.store.database import Database, Row, open_store
 from ocpp_board.writers.bills import find_zone, write_csv, write_moment, write_signed_kwh
 
-NAME, ABOUT = "corrections", "lists what closings changed of settled figures"
 HEADS = (
     *("closed_at", "closing", "site", "station", "session_id", "period_start", "period_start_local"),
     *("imported_kwh", "exported_kwh", "net_kwh", "first_line", "last_line", "lines"),
@@ -32,7 +30,7 @@ def add_words(parser: argparse.ArgumentParser) -> None:
     """The words of the command."""
     add_store(parser)
     add_site(parser)
-    add_semicolon(parser)
+    add_form(parser)
     parser.add_argument(
         "--since", type=read_day, required=True, metavar="DAY", help="closings from this day on"
     )
@@ -83,6 +81,6 @@ def write_row(row: Row, zone: ZoneInfo, lines: str) -> list[str]:
 
 def run(words: argparse.Namespace) -> int:
     """Writes the corrections to standard output."""
-    with open_named(words) as store:
-        write_csv(list_rows(store, words.site, words.since), sys.stdout, words.csv == "semicolon")
+    with open_store(words.store) as store:
+        write_csv(list_rows(store, words.site, words.since), sys.stdout, words.form == "semicolon")
     return Status.DONE

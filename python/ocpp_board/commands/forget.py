@@ -18,15 +18,13 @@ import sys
 from datetime import datetime, timedelta, timezone
 from pathlib import Path
 
-from ocpp_board.commands.words import add_program, add_store, open_named
+from ocpp_board.commands.options import add_program, add_store, choose_program
 from ocpp_board.errors import UsageError
 from ocpp_board.ledger.forgetting import NEVER, Forgotten, Wanted, forget_tokens
 from ocpp_board.ledger.old_sessions import move_old
 from ocpp_board.ledger.program import find_program
 from ocpp_board.statuses import Status
-from ocpp_board.store.database import Database
-
-NAME, ABOUT = "forget", "takes drivers' tokens or old years out of a store"
+from ocpp_board.store.database import Database, open_store
 
 
 def read_count(text: str) -> int:
@@ -74,7 +72,7 @@ def forget(store: Database, words: argparse.Namespace) -> int:
     now = datetime.now(timezone.utc)
     before = NEVER if words.after is None else now - timedelta(days=words.after)
     found = forget_tokens(
-        store, find_program(words.program), Wanted(words.token, before, words.signed)
+        store, find_program(), Wanted(words.token, before, words.signed)
     )
     print(describe(found))
     for reason in found.kept:
@@ -101,5 +99,6 @@ def move(store: Database, words: argparse.Namespace) -> int:
 
 def run(words: argparse.Namespace) -> int:
     """Forgets tokens or moves old sessions."""
-    with open_named(words) as store:
+    choose_program(words.program)
+    with open_store(words.store) as store:
         return forget(store, words) if words.years is None else move(store, words)

@@ -3,6 +3,7 @@
 import argparse
 import os
 from collections.abc import Mapping
+from datetime import date
 
 from ocpp_board.escapes import shown
 from ocpp_board.ledger.findings import MOST_KW
@@ -99,3 +100,37 @@ def add_zones(parser: argparse.ArgumentParser) -> None:
 def find_by_site(asked: Mapping[str, str], site: str) -> str | None:
     """What is asked of a site; None where nothing is."""
     return asked.get(site, asked.get(""))
+
+
+def add_site(parser: argparse.ArgumentParser) -> None:
+    """The option that names a site."""
+    parser.add_argument("--site", required=True, metavar="SITE", help="which site")
+
+
+def add_who(parser: argparse.ArgumentParser) -> None:
+    """The option that names who asks for a change."""
+    parser.add_argument("--who", required=True, metavar="NAME", help="who asks for this")
+
+
+def add_why(parser: argparse.ArgumentParser) -> None:
+    """The option that gives the reason of a change."""
+    parser.add_argument("--why", required=True, metavar="REASON", help="the reason, for the trail")
+
+
+def add_form(parser: argparse.ArgumentParser) -> None:
+    """The option that chooses the form of CSV."""
+    parser.add_argument(
+        "--csv",
+        dest="form",
+        choices=("comma", "semicolon"),
+        default="comma",
+        help="semicolon: for spreadsheets that want a decimal comma (default: comma)",
+    )
+
+
+def read_day(text: str) -> date:
+    """A day of the command line. Raises ArgumentTypeError."""
+    try:
+        return date.fromisoformat(text)
+    except ValueError:
+        raise argparse.ArgumentTypeError(f"{text!r} is no day such as 2026-03-01") from None

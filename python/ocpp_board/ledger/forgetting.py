@@ -13,7 +13,7 @@ from ocpp_board.errors import StoreError
 from ocpp_board.ledger.findings import Finding, Kind
 from ocpp_board.ledger.program import Program
 from ocpp_board.ledger.rows import Rows, Work, work_out
-from ocpp_board.messages.tokens import SIGNED, TOKEN, empty_line, empty_tokens
+from ocpp_board.messages.tokens import SIGNED, TOKENS, empty_line, empty_tokens
 from ocpp_board.records import Line
 from ocpp_board.store.database import Database
 from ocpp_board.store.plan import read_rules
@@ -22,8 +22,8 @@ from ocpp_board.store.plan import read_rules
 NEVER = datetime(9999, 1, 1, tzinfo=timezone.utc)
 # Sessions that are rewritten in one database transaction.
 AT_ONCE = 100
-# A name may have its letters as `\\u0069`.
-MAY_HAVE = "({0} like '%idToken%' or {0} like '%signedMeterValue%' or {0} like '%u00%')"
+# What a text with something to forget has: a name may have its letters as `\\u0069`.
+MAY_HAVE = """({0} like '%dToken%' or {0} like '%dTag%' or {0} like '%signedMeterValue%' or {0} like '%u00%')"""
 LINES = f"""
 select l.station, l.transaction_id, l.line
 from line l join session s on s.station = l.station and s.transaction_id = l.transaction_id
@@ -76,7 +76,7 @@ class Wanted(NamedTuple):
     @property
     def members(self) -> Collection[str]:
         """The members of messages that are emptied."""
-        return (TOKEN, SIGNED) if self.is_signed else (TOKEN,)
+        return (*TOKENS, SIGNED) if self.is_signed else TOKENS
 
     def empty(self, text: str) -> str:
         """A message without what is to be forgotten."""

@@ -11,7 +11,9 @@ from typing import Any
 from ocpp_board.messages.signed_values import text_of
 from ocpp_board.messages.texts import JSON, Refused, blanks
 
-TOKEN, SIGNED = "idToken", "signedMeterValue"
+# The members that have tokens, those of OCPP 1.6 in refused messages, too.
+TOKENS = ("idToken", "additionalIdToken", "groupIdToken", "idTag", "parentIdTag")
+SIGNED = "signedMeterValue"
 # In a text that is no JSON there is no member to empty; all of it goes. It is as little JSON as what it was.
 NO_JSON = "?"
 # What replaces a value, of the same kind, since a value of another kind is refused.
@@ -46,7 +48,7 @@ def write_empty(value: Any) -> str:
     return "null" if value is None else "0"
 
 
-def empty_tokens(message: str, token: str | None, members: Collection[str] = (TOKEN,)) -> str:
+def empty_tokens(message: str, token: str | None, members: Collection[str] = TOKENS) -> str:
     """The message without the tokens of drivers, or without this one. All else is as it was written."""
     # A text without these words and without an escape has no such member.
     has_word = any(member in message for member in members)
@@ -78,7 +80,7 @@ def find_members(text: str, members: Collection[str]) -> Iterator[tuple[int, int
         at = end
 
 
-def empty_line(line: str, token: str | None, members: Collection[str] = (TOKEN,)) -> str:
+def empty_line(line: str, token: str | None, members: Collection[str] = TOKENS) -> str:
     """A line `deliver STATION MESSAGE` without the tokens of drivers, or without this one; any other as it is."""
     word, _, rest = line.partition(" ")
     if word != "deliver":

@@ -12,7 +12,7 @@ from zoneinfo import ZoneInfo
 from ocpp_board.errors import UsageError
 from ocpp_board.store.database import Database, Row
 
-# Two closings of a site at once: the second one waits here.
+# Two closings of a site at once, or a closing and a change of its rules: the second one waits here.
 LOCK = "update site set site = site where site = :site"
 SITE = """
 select s.period, s.reading_order, s.settle, s.zone, s.first_settled_day, c.closing, c.day, c.until

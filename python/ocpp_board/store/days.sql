@@ -3,7 +3,7 @@
 
 -- A closing of a site: all periods up to the end of a day in the site's zone, by the rules of that time.
 create table closing (
-    site text not null,
+    site text /*postgresql collate "C"*/ not null,
     closing bigint not null,
     day date not null,
     until timestamptz not null,
@@ -19,10 +19,10 @@ create table closing (
 -- What a closing saw of each session that had changed since the closing before. `settled`: 'complete' or 'rule', and
 -- null while the session is open; `whole`: the session has no moment and no period behind the closing's end.
 create table closed_session (
-    station text not null,
-    transaction_id text not null,
+    station text /*postgresql collate "C"*/ not null,
+    transaction_id text /*postgresql collate "C"*/ not null,
     closing bigint not null,
-    site text not null,
+    site text /*postgresql collate "C"*/ not null,
     lines bigint not null,
     changed_at timestamptz not null,
     whole boolean not null,
@@ -42,11 +42,11 @@ create index closed_session_of_site on closed_session (site, closing);
 -- further one a difference; so sums are what is settled. `parts`: 1 where the period came on the board, -1
 -- where it went; `estimated`: the same for a period whose figure is not measured.
 create table closed_part (
-    station text not null,
-    transaction_id text not null,
+    station text /*postgresql collate "C"*/ not null,
+    transaction_id text /*postgresql collate "C"*/ not null,
     starts timestamptz not null,
     closing bigint not null,
-    site text not null,
+    site text /*postgresql collate "C"*/ not null,
     parts bigint not null,
     estimated bigint not null,
     up bigint not null,
@@ -59,9 +59,9 @@ create index closed_part_of_site on closed_part (site, closing);
 
 -- Sessions that somebody settled by rule, though messages lack.
 create table rule_settled (
-    station text not null,
-    transaction_id text not null,
-    site text not null,
+    station text /*postgresql collate "C"*/ not null,
+    transaction_id text /*postgresql collate "C"*/ not null,
+    site text /*postgresql collate "C"*/ not null,
     at timestamptz not null,
     who text not null,
     why text not null,
@@ -71,10 +71,10 @@ create table rule_settled (
 -- A declared fact beside the ledger's number: a meter that was exchanged or rolled over, a session closed by estimate, a
 -- credit. `at`: the moment that it counts at.
 create table adjustment (
-    station text not null,
+    station text /*postgresql collate "C"*/ not null,
     number bigint not null,
-    transaction_id text not null,
-    site text not null,
+    transaction_id text /*postgresql collate "C"*/ not null,
+    site text /*postgresql collate "C"*/ not null,
     kind text not null,
     at timestamptz not null,
     imported bigint not null,
@@ -88,8 +88,8 @@ create table adjustment (
 
 -- A hold that somebody released: for the figures that the session had then.
 create table release (
-    station text not null,
-    transaction_id text not null,
+    station text /*postgresql collate "C"*/ not null,
+    transaction_id text /*postgresql collate "C"*/ not null,
     kind text not null,
     up bigint not null,
     down bigint not null,
@@ -103,8 +103,8 @@ create table release (
 
 -- The code of the metering point of a site, or of one EVSE of a station. A site's has an empty station and EVSE -1.
 create table metering_point (
-    site text not null,
-    station text not null default '',
+    site text /*postgresql collate "C"*/ not null,
+    station text /*postgresql collate "C"*/ not null default '',
     evse bigint not null default -1,
     code text not null,
     primary key (site, station, evse)
@@ -112,9 +112,9 @@ create table metering_point (
 
 -- Sessions whose lines and rows left the store for files. A message of one begins it anew.
 create table exported_session (
-    station text not null,
-    transaction_id text not null,
-    site text not null,
+    station text /*postgresql collate "C"*/ not null,
+    transaction_id text /*postgresql collate "C"*/ not null,
+    site text /*postgresql collate "C"*/ not null,
     began timestamptz,
     file text not null,
     at timestamptz not null,
