@@ -92,7 +92,8 @@ def test_a_month_ends_with_the_figures_of_each_closing(store: Database) -> None:
     done = close(store, "2026-03-03")
     assert (done.number, done.corrections) == (2, 2)
     assert [
-        row.state for row in store.fetch("select state from session_state order by station, transaction_id")
+        row.state
+        for row in store.fetch("select state from session_state order by station, transaction_id")
     ] == ["settled", "settled", "settled", "provisional"]
 
     # A void of a settled day.
@@ -120,11 +121,15 @@ def test_a_month_ends_with_the_figures_of_each_closing(store: Database) -> None:
 def test_closing_again_changes_nothing(store: Database) -> None:
     send(store, "A", sound("t1", morning(1)))
     first = close(store, "2026-03-01")
-    before = [store.fetch(f"select * from {name}") for name in ("closing", "closed_part", "closed_session")]
+    before = [
+        store.fetch(f"select * from {name}")
+        for name in ("closing", "closed_part", "closed_session")
+    ]
     again = close(store, "2026-03-01")
     assert (first.number, again.number) == (1, None)
     assert before == [
-        store.fetch(f"select * from {name}") for name in ("closing", "closed_part", "closed_session")
+        store.fetch(f"select * from {name}")
+        for name in ("closing", "closed_part", "closed_session")
     ]
     # A day before the last closed one is closed with that.
     send(store, "A", sound("t2", morning(1)))
@@ -145,7 +150,10 @@ def test_a_session_over_midnight_is_settled_with_its_end(store: Database) -> Non
 
 
 def test_a_voided_session_leaves_its_periods(store: Database) -> None:
-    session = [event("t1", 0, "Started", morning(1), 1_000), event("t1", 1, "Ended", morning(1) + STEP, 2_000)]
+    session = [
+        event("t1", 0, "Started", morning(1), 1_000),
+        event("t1", 1, "Ended", morning(1) + STEP, 2_000),
+    ]
     send(store, "A", session)
     close(store, "2026-03-01")
     for number in (0, 1):
@@ -170,7 +178,9 @@ def test_mistakes_have_named_errors(store: Database) -> None:
     with pytest.raises(UsageError, match="no site 'south'"):
         close_day(store, "south", None, "jo")
     with pytest.raises(UsageError, match="2026-03-01 is not over at north"):
-        close_day(store, SITE, date(2026, 3, 1), "jo", datetime(2026, 3, 1, 22, 59, tzinfo=timezone.utc))
+        close_day(
+            store, SITE, date(2026, 3, 1), "jo", datetime(2026, 3, 1, 22, 59, tzinfo=timezone.utc)
+        )
     assert not store.fetch("select * from closing")
     # In Berlin the day ends an hour before.
     at = datetime(2026, 3, 1, 23, 0, tzinfo=timezone.utc)
@@ -209,7 +219,7 @@ def close_and_die(name: str) -> None:
                 os.kill(os.getpid(), signal.SIGKILL)
             return fetch(statement, **values)
 
-        store.fetch = die  # type: ignore[method-assign]
+        setattr(store, "fetch", die)
         close_day(store, SITE, date(2026, 3, 1), "jo", read_noon("2026-03-02"))
 
 
@@ -256,7 +266,9 @@ def test_corrections_name_their_lines(store: Database) -> None:
     close(store, "2026-03-02")
     heads, *rows = list_rows(store, SITE, date(2026, 3, 3))
     found = [dict(zip(heads, row, strict=True)) for row in rows]
-    assert {row["lines"] for row in found} == {"5: void of event 3 at 2026-03-02T09:00:00Z by jo: it was wrong"}
+    assert {row["lines"] for row in found} == {
+        "5: void of event 3 at 2026-03-02T09:00:00Z by jo: it was wrong"
+    }
     assert sum(float(row["net_kwh"]) for row in found) == pytest.approx(-0.25)
     assert found[0]["period_start_local"] == "2026-03-01 09:15"
     assert len(list(list_rows(store, SITE, date(2026, 3, 4)))) == 1
@@ -280,7 +292,10 @@ def test_the_commands(store: Database, name: str) -> None:
     [
         (["close-day", "--site", "south", "--who", "jo"], "no site 'south'"),
         (["close-day", "--site", SITE, "--who", "jo", "--day", "2026-02-30"], "no day such as"),
-        (["close-day", "--site", SITE, "--who", "jo", "--day", "2090-01-01"], "is not over at north"),
+        (
+            ["close-day", "--site", SITE, "--who", "jo", "--day", "2090-01-01"],
+            "is not over at north",
+        ),
         (["close-day", "--site", SITE], "--who"),
         (["corrections", "--site", "south", "--since", "2026-03-01"], "no site 'south'"),
         (["corrections", "--site", SITE, "--since", "March"], "no day such as"),

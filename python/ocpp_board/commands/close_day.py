@@ -3,8 +3,8 @@
     ocpp-board close-day --store ledger.db --site north --who jo
     ocpp-board close-day --store ledger.db --site north --day 2026-03-01 --who jo
 
-Without --day it closes yesterday, in the site's zone. A day that was left out is closed with the next one. Late messages
-and voids of a closed day are answered as any other; the next closing adds a row for each difference, which
+Without --day it closes yesterday, in the site's zone. A day that was left out is closed with the next one. Late
+messages and voids of a closed day are answered as any other; the next closing adds a row for each difference, which
 `ocpp-board corrections` lists. A closing where nothing changed changes nothing. From its first closing on a site keeps
 its period, its order of readings, its rule of settling and its zone.
 """

@@ -21,7 +21,15 @@ from ocpp_board.store.database import Database, Row, open_store
 from ocpp_board.writers.bills import find_zone, write_csv, write_moment, write_signed_kwh
 
 HEADS = (
-    *("closed_at", "closing", "site", "station", "session_id", "period_start", "period_start_local"),
+    *(
+        "closed_at",
+        "closing",
+        "site",
+        "station",
+        "session_id",
+        "period_start",
+        "period_start_local",
+    ),
     *("imported_kwh", "exported_kwh", "net_kwh", "first_line", "last_line", "lines"),
 )
 

@@ -71,9 +71,7 @@ def forget(store: Database, words: argparse.Namespace) -> int:
     """Forgets tokens, and reports the sessions that kept theirs."""
     now = datetime.now(timezone.utc)
     before = NEVER if words.after is None else now - timedelta(days=words.after)
-    found = forget_tokens(
-        store, find_program(), Wanted(words.token, before, words.signed)
-    )
+    found = forget_tokens(store, find_program(), Wanted(words.token, before, words.signed))
     print(describe(found))
     for reason in found.kept:
         print(f"kept its tokens: {reason}", file=sys.stderr)

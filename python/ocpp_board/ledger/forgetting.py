@@ -183,7 +183,9 @@ def check_figures(
 ) -> Iterator[Rows | str]:
     """The rows of each session by its emptied lines, or why they can't be written."""
     new = [one.work._replace(stored=one.lines) for one in some]
-    for had, now in zip(compute_rows(program, [one.work for one in some]), compute_rows(program, new)):
+    for had, now in zip(
+        compute_rows(program, [one.work for one in some]), compute_rows(program, new)
+    ):
         if isinstance(had, str) or isinstance(now, str):
             yield now if isinstance(now, str) else had
         elif leave_tokens(had, wanted.is_signed) != leave_tokens(now, wanted.is_signed):

@@ -36,7 +36,16 @@ select line from line where station = :station and transaction_id = :transaction
 """
 # What the store has of a session, by its tables, in the order in which they are removed.
 TABLES = (
-    *("part", "finding", "closed_part", "closed_session", "adjustment", "release", "rule_settled", "deed"),
+    *(
+        "part",
+        "finding",
+        "closed_part",
+        "closed_session",
+        "adjustment",
+        "release",
+        "rule_settled",
+        "deed",
+    ),
     *("refusal", "line", "session"),
 )
 OWN = "station = :station and transaction_id = :transaction_id"

@@ -24,7 +24,9 @@ BEGIN = """
 insert into closing (site, closing, day, until, at, who, period, reading_order, settle, zone)
 values (:site, :closing, :day, :until, :at, :who, :period, :reading_order, :settle, :zone)
 """
-FIRST_DAY = "update site set first_settled_day = :day where site = :site and first_settled_day is null"
+FIRST_DAY = (
+    "update site set first_settled_day = :day where site = :site and first_settled_day is null"
+)
 # The sessions that changed since a closing saw them, that are open since then, or that somebody settled by rule.
 SEE_SESSIONS = """
 insert into closed_session (station, transaction_id, closing, site, lines, changed_at, whole, settled, evse, events,
@@ -67,11 +69,11 @@ group by station, transaction_id, starts
 having sum(parts) <> 0 or sum(estimated) <> 0 or sum(up) <> 0 or sum(down) <> 0 or sum(export_up) <> 0
     or sum(export_down) <> 0
 """
-SEEN = "(select station, transaction_id from closed_session where site = :site and closing = :closing)"
-# PostgreSQL does both in one statement, which sees one moment of the store. SQLite has one writer at a time.
-SETTLE_AT_ONCE = (
-    f"with seen as ({SEE_SESSIONS} returning station, transaction_id) {SETTLE_PARTS.format(seen='seen')}"
+SEEN = (
+    "(select station, transaction_id from closed_session where site = :site and closing = :closing)"
 )
+# PostgreSQL does both in one statement, which sees one moment of the store. SQLite has one writer at a time.
+SETTLE_AT_ONCE = f"with seen as ({SEE_SESSIONS} returning station, transaction_id) {SETTLE_PARTS.format(seen='seen')}"
 COUNTS = """
 select count(*) as sessions, (
     select count(*) from correction where site = :site and closing = :closing) as corrections
@@ -124,21 +126,23 @@ def close_day(
         if not found:
             raise UsageError(f"the store has no site {site!r}; `ocpp-board plan` lists its sites")
         rules = found[0]
-        day = choose_day(site, day, rules.zone, now)
-        until, moved = end_day(day, rules.zone), 1
+        last = choose_day(site, day, rules.zone, now)
+        until, moved = end_day(last, rules.zone), 1
         if rules.until is not None and until <= rules.until:
-            day, until, moved = rules.day, rules.until, 0
+            last, until, moved = rules.day, rules.until, 0
         number = (rules.closing or 0) + 1
         values = {"site": site, "closing": number, "until": until}
-        columns = {name: getattr(rules, name) for name in ("period", "reading_order", "settle", "zone")}
-        store.execute(BEGIN, **values, **columns, day=day, at=now, who=who)
-        store.execute(FIRST_DAY, site=site, day=day)
+        columns = {
+            name: getattr(rules, name) for name in ("period", "reading_order", "settle", "zone")
+        }
+        store.execute(BEGIN, **values, **columns, day=last, at=now, who=who)
+        store.execute(FIRST_DAY, site=site, day=last)
         periods = settle_parts(store, values | {"moved": moved})
         counts = store.fetch(COUNTS, site=site, closing=number)[0]
         if not (moved or counts.sessions):
             store.execute(TAKE_BACK, site=site, closing=number)
-            return Closing(site, day, None)
-        return Closing(site, day, number, counts.sessions, periods, counts.corrections)
+            return Closing(site, last, None)
+        return Closing(site, last, number, counts.sessions, periods, counts.corrections)
 
 
 def settle_parts(store: Database, values: dict[str, Any]) -> int:

@@ -90,7 +90,7 @@ def find_zone(store: Database, site: str) -> ZoneInfo:
     return ZoneInfo(found[0].zone)
 
 
-def bound_month(zone: ZoneInfo, year: int, month: int) -> dict[str, datetime]:
+def bound_month(zone: ZoneInfo, year: int, month: int) -> dict[str, Any]:
     """The first moment of a month in a zone, and the one behind it."""
     days = (date(year, month, 1), date(year + month // 12, month % 12 + 1, 1))
     begin, end = (datetime.combine(day, time(), zone).astimezone(timezone.utc) for day in days)
@@ -159,8 +159,9 @@ def list_bills(
     store: Database, site: str, year: int, month: int, options: BillOptions
 ) -> Iterator[list[str]]:
     """The heads, then the cells of each session that began in the month, in the site's zone. One whose start did not
-    come belongs to the month of its earliest event. Raises UsageError where the store has no such site."""
-    values = {"site": site, **bound_month(find_zone(store, site), year, month)}
+    come belongs to the month of its earliest event. Raises UsageError where the store has no such site.
+    """
+    values: dict[str, Any] = {"site": site} | bound_month(find_zone(store, site), year, month)
     with store.snapshot():
         notes, rows = read_notes(store, values), store.fetch(SESSIONS, **values)
     yield list(HEADS)
