@@ -10,6 +10,7 @@ import shutil
 import subprocess
 import threading
 from collections.abc import Iterable, Sequence
+from datetime import datetime, timezone
 from functools import cache
 from pathlib import Path
 from typing import Protocol
@@ -26,6 +27,8 @@ LIBRARY_NAME, PROGRAM_NAME = "OCPP_LEDGER_LIBRARY", "OCPP_BOARD_PROGRAM"
 # Statuses of the library's calls.
 OK, TOO_SMALL, TOO_LONG, NO_MEMORY = range(4)
 SILENT, REPLY, EVENT, MISTAKEN, NO_MEMORY_ASKED = range(5)
+# Bytes of a text that a line has room for, whatever its first words are.
+LONGEST_TEXT = LONGEST_LINE - 64
 # Bytes that what a text asks for may have: a reply has at most 512.
 LONGEST_WISH = 1_024
 # The first moment that a text's reply may name, in nanoseconds since 1970, and a second.
@@ -42,14 +45,14 @@ class Program(Protocol):
         """What each text of a station asks for, at its moment in nanoseconds since 1970. Raises ProgramError."""
 
 
-def encode_text(text: str) -> bytes | None:
-    """The bytes of a station's text as a line of a script has it; None of one that no UTF-8 writes, or that no line has
-    room for."""
+def encode_text(text: str) -> bytes | Wish:
+    """The bytes of a station's text as a line of a script has it; else the fault of one that no UTF-8 writes, or that
+    no line has room for."""
     try:
         data = one_line(text).encode("utf-8")
     except UnicodeEncodeError:
-        return None
-    return data if len(data) <= LONGEST_LINE - 64 else None
+        return Wish("fault", "BadLine")
+    return data if len(data) <= LONGEST_TEXT else Wish("fault", "LineTooLong")
 
 
 class LibraryProgram:
@@ -110,10 +113,8 @@ class LibraryProgram:
         found = list[Wish]()
         for one, moment in zip(texts, moments):
             data = encode_text(one)
-            if data is None:
-                found.append(
-                    Wish("fault", "LineTooLong" if len(one) > LONGEST_LINE // 4 else "BadLine")
-                )
+            if isinstance(data, Wish):
+                found.append(data)
                 continue
             status = self.call_asks(
                 *(data, len(data), FIRST if moment is None else moment),
@@ -155,11 +156,12 @@ class ProcessProgram:
 
     def ask(self, texts: Sequence[str], moments: Sequence[int | None]) -> list[Wish]:
         """What each text asks for."""
-        lines, asked, before = list[bytes](), list[bool](), -1
+        lines, before = list[bytes](), -1
+        found = list[Wish | None]()
         for text, moment in zip(texts, moments):
             data = encode_text(text)
-            asked.append(data is not None)
-            if data is None:
+            found.append(data if isinstance(data, Wish) else None)
+            if isinstance(data, Wish):
                 continue
             moment = FIRST if moment is None else moment
             if moment != before:
@@ -168,13 +170,11 @@ class ProcessProgram:
             # A carriage return right before the line feed would be dropped.
             lines.append(b"asks " + data + (b"\r\n" if data.endswith(b"\r") else b"\n"))
         answers = iter(self.answer(b"".join(lines)).decode("utf-8").split("\n") if lines else ())
-        return [read_wish(next(answers)) if one else Wish("fault", "BadLine") for one in asked]
+        return [read_wish(next(answers)) if one is None else one for one in found]
 
 
 def write_now(moment: int) -> bytes:
     """The line of a script that sets its moment, in nanoseconds since 1970."""
-    from datetime import datetime, timezone
-
     at = datetime.fromtimestamp(moment // SECOND, timezone.utc)
     return f"now {at:%Y-%m-%dT%H:%M:%S}Z\n".encode()
 

@@ -4,25 +4,22 @@ A site's lines are replayed in scripts of up to 64 stations; boards of scripts t
 """
 
 from collections.abc import Iterable, Iterator, Sequence
-from dataclasses import dataclass, field
-from itertools import groupby
-from operator import attrgetter
 from typing import Any, NamedTuple
 
 from ocpp_board.energies import Flow
+from ocpp_board.errors import OcppBoardError
 from ocpp_board.ledger.answers import AnswerReader, Board, BoardPart, Figures, Total
 from ocpp_board.ledger.engine import Pool
 from ocpp_board.ledger.program import find_program
-from ocpp_board.ledger.rows import DELIVER, count_readings
-from ocpp_board.limits import GREATEST_LIMITS, MOST_READINGS, MOST_STATIONS
+from ocpp_board.ledger.scripts import Script, part_scripts, write_line
 from ocpp_board.records import Rules
-from ocpp_board.store.database import Database, Row
+from ocpp_board.store.database import Database
 from ocpp_board.store.plan import RULES_COLUMNS, read_rules
 
-# Bytes of a script at which another one begins, and scripts that are made before they are answered.
-MOST_BYTES, AT_ONCE = 32 * 1_048_576, 8
+# Scripts that are made before they are answered.
+AT_ONCE = 8
 LINES = """
-select l.station, l.transaction_id, l.number, l.line from line l
+select l.station, l.transaction_id, l.number, l.line, l.received, l.who, l.why, l.origin from line l
 join session s on s.station = l.station and s.transaction_id = l.transaction_id
 where s.site = :site order by l.station, l.transaction_id, l.number
 """
@@ -30,7 +27,7 @@ COUNTS = ("events", "voided", "transactions", "complete_transactions", "missing"
 FLOW = Flow._fields
 
 
-class Difference(Exception):
+class Difference(OcppBoardError):
     """The first figure of a store that is not the program's, in a sentence."""
 
 
@@ -39,73 +36,6 @@ class Verified(NamedTuple):
 
     figures: int
     difference: str = ""
-
-
-@dataclass(slots=True)
-class Use:
-    """What the lines of a station need in a script."""
-
-    transactions: int = 0
-    events: int = 0
-    readings: int = 0
-
-    def plus(self, events: int, readings: int) -> "Use":
-        """With one more transaction."""
-        return Use(self.transactions + 1, self.events + events, self.readings + readings)
-
-    def fits(self) -> bool:
-        """Whether a station can have so much."""
-        return (
-            self.transactions <= GREATEST_LIMITS["transactions"]
-            and self.events <= GREATEST_LIMITS["events"]
-            and self.readings <= GREATEST_LIMITS["readings"]
-        )
-
-
-@dataclass(slots=True)
-class Script:
-    """A script of a site's lines that grows."""
-
-    uses: dict[str, Use] = field(default_factory=dict)
-    lines: list[str] = field(default_factory=list)
-    size: int = 0
-
-    def takes(self, station: str, events: int, readings: int, size: int) -> bool:
-        """Whether there is room for another transaction."""
-        if not self.lines:
-            return True
-        use = self.uses.get(station, Use()).plus(events, readings)
-        return (
-            use.fits()
-            and (station in self.uses or len(self.uses) < MOST_STATIONS)
-            and sum(one.readings for one in self.uses.values()) + readings <= MOST_READINGS
-            and self.size + size <= MOST_BYTES
-        )
-
-    def add(self, station: str, lines: Sequence[str], events: int, readings: int) -> None:
-        """Adds a transaction."""
-        self.uses[station] = self.uses.get(station, Use()).plus(events, readings)
-        self.lines += lines
-        self.size += sum(map(len, lines))
-
-    def write(self, site: str, rules: Rules) -> bytes:
-        """The script, with a line `board` at its end."""
-        heads = list[str]()
-        for station, use in self.uses.items():
-            events, readings = max(use.events, 1), max(use.readings, 1)
-            heads.append(f"limits {use.transactions} {events} {readings} {2**63}")
-            heads.append(f"station {site} {station}")
-        heads += write_rules(site, rules)
-        return "\n".join([*heads, *self.lines, f"board {site}", ""]).encode()
-
-
-def write_rules(site: str, rules: Rules) -> list[str]:
-    """The lines of a script that declare a site's rules."""
-    return [
-        f"period {site} {rules.period}",
-        f"order {site} {rules.order}",
-        f"settle {site} {rules.settle}",
-    ]
 
 
 def verify(
@@ -133,7 +63,7 @@ def verify(
 def replay_site(store: Database, site: str, rules: Rules, pool: Pool | None) -> Board:
     """A site's board by the program, from all its lines. Raises Difference where a line is not accepted."""
     board = Board(site)
-    for some in take_some(part_scripts(store.stream(LINES, site=site)), AT_ONCE):
+    for some in take_some(part_scripts(store.stream(LINES, site=site), write_line), AT_ONCE):
         pieces = [(script.write(site, rules), len(script.lines), site) for script in some]
         boards = pool.imap(replay_script, pieces) if pool else map(replay_script, pieces)
         for one in boards:
@@ -150,21 +80,6 @@ def take_some(scripts: Iterator[Script], count: int) -> Iterator[list[Script]]:
             yield some
             some = []
     yield some
-
-
-def part_scripts(rows: Iterable[Row]) -> Iterator[Script]:
-    """Scripts of a site's lines, which come by station and transaction."""
-    script = Script()
-    for (station, _), some in groupby(rows, attrgetter("station", "transaction_id")):
-        lines = [row.line + "\r" if row.line.endswith("\r") else row.line for row in some]
-        texts = [line for line in lines if line.startswith(DELIVER)]
-        events, readings = len(texts), sum(map(count_readings, texts))
-        if not script.takes(station, events, readings, sum(map(len, lines))):
-            yield script
-            script = Script()
-        script.add(station, lines, events, readings)
-    if script.lines:
-        yield script
 
 
 def replay_script(piece: tuple[bytes, int, str]) -> Board:
