@@ -187,18 +187,18 @@ def test_mistakes_have_named_errors(store: Database) -> None:
     assert close_day(store, SITE, None, "jo", at).day == date(2026, 3, 1)
 
 
-def close_once(name: str, ready: "multiprocessing.synchronize.Barrier") -> None:
+def close_once(store_name: str, ready: "multiprocessing.synchronize.Barrier") -> None:
     """Closes a day at once with other processes."""
-    with open_store(name) as store:
+    with open_store(store_name) as store:
         ready.wait()
         close_day(store, SITE, date(2026, 3, 1), "jo", read_noon("2026-03-02"))
 
 
-def test_two_closings_at_once_close_once(store: Database, name: str) -> None:
+def test_two_closings_at_once_close_once(store: Database, store_name: str) -> None:
     send(store, "A", *(sound(f"t{number}", morning(1) + number * STEP) for number in range(40)))
     context = multiprocessing.get_context("spawn")
     ready = context.Barrier(3)
-    closings = [context.Process(target=close_once, args=(name, ready)) for _ in range(3)]
+    closings = [context.Process(target=close_once, args=(store_name, ready)) for _ in range(3)]
     for one in closings:
         one.start()
     for one in closings:
@@ -208,10 +208,10 @@ def test_two_closings_at_once_close_once(store: Database, name: str) -> None:
     assert read_settled(store) == expect(store, date(2026, 3, 1))
 
 
-def close_and_die(name: str) -> None:
+def close_and_die(store_name: str) -> None:
     """Dies by a kill between the statements of a closing."""
     count = closing.COUNTS
-    with open_store(name) as store:
+    with open_store(store_name) as store:
         fetch = store.fetch
 
         def die(statement: str, **values: object) -> list[object]:
@@ -223,9 +223,9 @@ def close_and_die(name: str) -> None:
         close_day(store, SITE, date(2026, 3, 1), "jo", read_noon("2026-03-02"))
 
 
-def test_a_closing_that_is_killed_leaves_nothing(store: Database, name: str) -> None:
+def test_a_closing_that_is_killed_leaves_nothing(store: Database, store_name: str) -> None:
     send(store, "A", sound("t1", morning(1)))
-    one = multiprocessing.get_context("spawn").Process(target=close_and_die, args=(name,))
+    one = multiprocessing.get_context("spawn").Process(target=close_and_die, args=(store_name,))
     one.start()
     one.join()
     assert one.exitcode == -signal.SIGKILL
@@ -235,18 +235,18 @@ def test_a_closing_that_is_killed_leaves_nothing(store: Database, name: str) -> 
     assert close(store, "2026-03-01").number == 1
 
 
-def write_many(name: str, ready: "multiprocessing.synchronize.Barrier") -> None:
+def write_many(store_name: str, ready: "multiprocessing.synchronize.Barrier") -> None:
     """Settles sessions while another process closes."""
-    with open_store(name) as store:
+    with open_store(store_name) as store:
         ready.wait()
         for number in range(8):
             send(store, "A", sound(f"t{number}", morning(1) + number * timedelta(minutes=3)))
 
 
-def test_what_comes_during_closings_is_settled_once(store: Database, name: str) -> None:
+def test_what_comes_during_closings_is_settled_once(store: Database, store_name: str) -> None:
     context = multiprocessing.get_context("spawn")
     ready = context.Barrier(2)
-    writer = context.Process(target=write_many, args=(name, ready))
+    writer = context.Process(target=write_many, args=(store_name, ready))
     writer.start()
     ready.wait()
     end = time.monotonic() + 30
@@ -274,15 +274,15 @@ def test_corrections_name_their_lines(store: Database) -> None:
     assert len(list(list_rows(store, SITE, date(2026, 3, 4)))) == 1
 
 
-def test_the_commands(store: Database, name: str) -> None:
+def test_the_commands(store: Database, store_name: str) -> None:
     late: Session = sound("t1", morning(1))
     send(store, "A", late[:3])
-    words = ["close-day", "--store", name, "--site", SITE, "--who", "jo", "--day", "2026-03-01"]
+    words = ["close-day", "--store", store_name, "--site", SITE, "--who", "jo", "--day", "2026-03-01"]
     assert "closing 1 of north up to 2026-03-01: 1 sessions" in run(*words).stdout
     assert "nothing changed since" in run(*words).stdout
     send(store, "A", late[3:])
     assert run(*words).returncode == 0
-    made = run("corrections", "--store", name, "--site", SITE, "--since", "2026-01-01")
+    made = run("corrections", "--store", store_name, "--site", SITE, "--since", "2026-01-01")
     rows = list(csv.DictReader(io.StringIO(made.stdout)))
     assert [row["imported_kwh"] for row in rows] == ["0.25"]
 
@@ -296,14 +296,13 @@ def test_the_commands(store: Database, name: str) -> None:
             ["close-day", "--site", SITE, "--who", "jo", "--day", "2090-01-01"],
             "is not over at north",
         ),
-        (["close-day", "--site", SITE], "--who"),
         (["corrections", "--site", "south", "--since", "2026-03-01"], "no site 'south'"),
         (["corrections", "--site", SITE, "--since", "March"], "no day such as"),
     ],
 )
 def test_wrong_words_have_a_named_error(
-    store: Database, name: str, words: list[str], said: str
+    store: Database, store_name: str, words: list[str], said: str
 ) -> None:
-    made = run(words[0], "--store", name, *words[1:])
+    made = run(words[0], "--store", store_name, *words[1:])
     assert (made.returncode, made.stdout) == (2, "")
     assert said in made.stderr

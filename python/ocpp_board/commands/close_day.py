@@ -1,7 +1,7 @@
 """Close a site's days: freeze the energy of all periods up to a day's end, and of the sessions that are complete.
 
-    ocpp-board close-day --store ledger.db --site north --who jo
-    ocpp-board close-day --store ledger.db --site north --day 2026-03-01 --who jo
+    ocpp-board close-day --store ledger.db --site north
+    ocpp-board close-day --store ledger.db --site north --day 2026-03-01
 
 Without --day it closes yesterday, in the site's zone. A day that was left out is closed with the next one. Late
 messages and voids of a closed day are answered as any other; the next closing adds a row for each difference, which
@@ -11,7 +11,7 @@ its period, its order of readings, its rule of settling and its zone.
 
 import argparse
 
-from ocpp_board.commands.options import add_site, add_store, add_who, read_day
+from ocpp_board.commands.options import add_site, add_store, add_who, read_day, read_who
 from ocpp_board.statuses import Status
 from ocpp_board.store.closing import Closing, close_day
 from ocpp_board.store.database import open_store
@@ -38,5 +38,5 @@ def describe(closing: Closing) -> str:
 def run(words: argparse.Namespace) -> int:
     """Closes the day."""
     with open_store(words.store) as store:
-        print(describe(close_day(store, words.site, words.day, words.who)))
+        print(describe(close_day(store, words.site, words.day, read_who(words))))
     return Status.DONE

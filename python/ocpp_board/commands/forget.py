@@ -18,20 +18,13 @@ import sys
 from datetime import datetime, timedelta, timezone
 from pathlib import Path
 
-from ocpp_board.commands.options import add_program, add_store, choose_program
+from ocpp_board.commands.options import add_program, add_store, choose_program, read_count
 from ocpp_board.errors import UsageError
 from ocpp_board.ledger.forgetting import NEVER, Forgotten, Wanted, forget_tokens
 from ocpp_board.ledger.old_sessions import move_old
 from ocpp_board.ledger.program import find_program
 from ocpp_board.statuses import Status
 from ocpp_board.store.database import Database, open_store
-
-
-def read_count(text: str) -> int:
-    """A count of days or years. Raises ArgumentTypeError."""
-    if not text.isdecimal() or not 1 <= int(text) <= 36_500:
-        raise argparse.ArgumentTypeError(f"{text!r} is no count from 1 to 36500")
-    return int(text)
 
 
 def read_token(text: str) -> str:
