@@ -12,11 +12,11 @@ from ocpp_board.ledger.engine import change_site, settle
 from ocpp_board.records import Answer, Deed, Message, Rules
 from ocpp_board.store.database import Database, open_store
 from ocpp_board.store.plan import Author, write_station
-from tests.store.conftest import found_program as found_program
-from tests.store.conftest import named_store as named_store
-from tests.store.conftest import running_cluster as running_cluster
+from tests.store.conftest import found_program, named_store, running_cluster
 from tests.traffic.troubles import Sent, Session
 
+# The fixtures of all tests on stores.
+__all__ = ["found_program", "named_store", "running_cluster"]
 SITE, ZONE = "north", "Europe/Berlin"
 AUTHOR = Author("tests", "a test")
 

@@ -63,7 +63,9 @@ def test_a_month_has_every_doubt_beside_its_sessions(store: Database) -> None:
     send_month(store)
     bills = read_bills(store)
     assert set(bills) == set(KINDS)
-    for row in store.fetch("select station, up - down as net, export_up - export_down as fed from session"):
+    for row in store.fetch(
+        "select station, up - down as net, export_up - export_down as fed from session"
+    ):
         assert float(bills[row.station]["total_energy"]) * 1e6 == pytest.approx(row.net)
         assert float(bills[row.station]["exported_energy"]) * 1e6 == pytest.approx(row.fed)
     held = {station: row["hold"] for station, row in bills.items() if row["hold"]}
@@ -88,7 +90,10 @@ def test_bills_have_ocpis_names_and_tokens_by_choice(store: Database, tmp_path: 
     row = read_bills(store, BillOptions(signed=tmp_path))["A"]
     assert tuple(row) == HEADS
     assert (row["session_id"], row["sent_id"], row["evse_uid"]) == ("t-big", "T-Big", "1")
-    assert (row["start_date_time"], row["end_date_time"]) == ("2026-03-01T08:00:00Z", "2026-03-01T08:30:00Z")
+    assert (row["start_date_time"], row["end_date_time"]) == (
+        "2026-03-01T08:00:00Z",
+        "2026-03-01T08:30:00Z",
+    )
     assert (row["total_energy"], row["total_time"]) == ("0.75", "0.5000")
     assert (row["id_token"], row["id_token_type"], row["remote_start_id"]) == ("", "", "77")
     assert read_bills(store, BillOptions("plain"))["A"]["id_token"] == "'=Ab12"
@@ -116,7 +121,11 @@ def test_bills_say_what_is_settled(store: Database) -> None:
     assert (bills["A"]["settled"], bills["A"]["settled_by"]) == ("settled", "complete")
     assert bills["B"]["settled"] == "provisional"
     operate(store, "erase", "B", "t1", 2, read_noon("2026-03-02"))
-    send(store, "B", [event("t1", 2, "Updated", FIRST + 3 * STEP, 1_500), event("t1", 4, "Updated", FIRST, 900)])
+    send(
+        store,
+        "B",
+        [event("t1", 2, "Updated", FIRST + 3 * STEP, 1_500), event("t1", 4, "Updated", FIRST, 900)],
+    )
     operate(store, "void", "B", "t1", 4, read_noon("2026-03-02"))
     operate(store, "void", "B", "t1", 3, read_noon("2026-03-02"))
     operate(store, "erase", "B", "t1", 3, read_noon("2026-03-02"))
@@ -175,11 +184,14 @@ def test_an_estimate_closes_a_session(store: Database) -> None:
     for one in later:
         one.payload["meterValue"][0]["sampledValue"][0]["value"] += 800
     send(store, "A", later)
-    one = declare_estimate(store, "A", "T1", None)
-    assert (one.imported, one.detail) == (300_000, "transaction t2 began at 1.800 kWh, its last reading is 1.500 kWh")
+    estimate = declare_estimate(store, "A", "T1", None)
+    assert (estimate.imported, estimate.detail) == (
+        300_000,
+        "transaction t2 began at 1.800 kWh, its last reading is 1.500 kWh",
+    )
     with pytest.raises(UsageError, match="below the last reading"):
         declare_estimate(store, "A", "t1", 1_000)
-    adjust(store, one, AUTHOR)
+    adjust(store, estimate, AUTHOR)
     row = store.fetch("select * from adjusted_session where transaction_id = 't1'")[0]
     assert (row.imported, row.adjusted_import, row.import_sum) == (500_000, 300_000, 800_000)
 

@@ -277,7 +277,17 @@ def test_corrections_name_their_lines(store: Database) -> None:
 def test_the_commands(store: Database, store_name: str) -> None:
     late: Session = sound("t1", morning(1))
     send(store, "A", late[:3])
-    words = ["close-day", "--store", store_name, "--site", SITE, "--who", "jo", "--day", "2026-03-01"]
+    words = [
+        "close-day",
+        "--store",
+        store_name,
+        "--site",
+        SITE,
+        "--who",
+        "jo",
+        "--day",
+        "2026-03-01",
+    ]
     assert "closing 1 of north up to 2026-03-01: 1 sessions" in run(*words).stdout
     assert "nothing changed since" in run(*words).stdout
     send(store, "A", late[3:])

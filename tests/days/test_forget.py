@@ -74,7 +74,10 @@ def test_all_tokens_leave_and_all_figures_stay(store: Database) -> None:
     assert verify(store).difference == ""
     # An emptied event is a repeat of the one that had the token, and an operator's line still finds it.
     (answer,) = send(store, "A", give_token(signed_differs("t1", FIRST), "Ab12", (0, 3))[:1])
-    assert (answer.outcome, answer.reply) == ("repeat", '[3,"m",{"idTokenInfo":{"status":"Accepted"}}]')
+    assert (answer.outcome, answer.reply) == (
+        "repeat",
+        '[3,"m",{"idTokenInfo":{"status":"Accepted"}}]',
+    )
     assert operate(store, "restore", "A", "t1", 0, FIRST).outcome == "accepted"
     assert verify(store).difference == ""
     again = forget_tokens(store, find_program(), Wanted())
@@ -82,7 +85,12 @@ def test_all_tokens_leave_and_all_figures_stay(store: Database) -> None:
 
 
 def test_old_tokens_leave_and_new_ones_stay(store: Database) -> None:
-    send(store, "A", give_token(sound("t1", FIRST), "Ab12"), give_token(sound("t2", FIRST + DAY), "Ab12"))
+    send(
+        store,
+        "A",
+        give_token(sound("t1", FIRST), "Ab12"),
+        give_token(sound("t2", FIRST + DAY), "Ab12"),
+    )
     found = forget_tokens(store, find_program(), Wanted(before=FIRST + DAY))
     assert (found.lines, found.sessions) == (1, 1)
     rows = store.fetch("select token from session order by transaction_id")
@@ -90,7 +98,12 @@ def test_old_tokens_leave_and_new_ones_stay(store: Database) -> None:
 
 
 def test_one_token_leaves_whatever_its_letters(store: Database) -> None:
-    send(store, "A", give_token(sound("t1", FIRST), "AB12"), give_token(sound("t2", FIRST + DAY), "other"))
+    send(
+        store,
+        "A",
+        give_token(sound("t1", FIRST), "AB12"),
+        give_token(sound("t2", FIRST + DAY), "other"),
+    )
     text = write_message(give_token(sound("t3", FIRST + 2 * DAY), "ab12")[0])
     escaped = text.replace('"idToken":{', '"\\u0069dToken":{')
     assert escaped != text
@@ -147,7 +160,14 @@ def test_old_sessions_become_files_that_replay(store: Database, tmp_path: Path) 
         script = packed.read("A.1.script")
         sessions = list(csv.DictReader(io.TextIOWrapper(packed.open("session.csv"))))
         parts = list(csv.DictReader(io.TextIOWrapper(packed.open("closed_part.csv"))))
-    assert {"A.1.script", "session.csv", "part.csv", "line.csv", "deed.csv", "closed_session.csv"} <= names
+    assert {
+        "A.1.script",
+        "session.csv",
+        "part.csv",
+        "line.csv",
+        "deed.csv",
+        "closed_session.csv",
+    } <= names
     assert [row["transaction_id"] for row in sessions] == ["old"]
     assert sum(int(row["up"]) for row in parts) == old.up
     reader = AnswerReader(find_program().answer(script))

@@ -1,6 +1,7 @@
 """Declare a fact beside a session's proved number: a meter that was exchanged, an end by estimate, a credit.
 
-    ocpp-board adjust --store ledger.db exchange CS-01 1 --at 2026-03-02T10:15:00Z --old-end 4711.5 --new-begin 0 --why ..
+    ocpp-board adjust --store ledger.db exchange CS-01 1 --at 2026-03-02T10:15:00Z --old-end 4711.5 --new-begin 0 \\
+        --why "meter exchanged"
     ocpp-board adjust --store ledger.db estimate CS-01 T-4711 --register next --why "the station was cut off"
     ocpp-board adjust --store ledger.db credit CS-01 T-4711 --kwh -1.5 --why "the cable was locked"
     ocpp-board adjust --store ledger.db propose --site north

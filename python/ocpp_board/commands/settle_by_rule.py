@@ -22,7 +22,10 @@ def add_words(parser: argparse.ArgumentParser) -> None:
     add_store(parser)
     add_site(parser)
     parser.add_argument(
-        "--days", required=True, type=read_count, help="nothing of them is later than so many days ago"
+        "--days",
+        required=True,
+        type=read_count,
+        help="nothing of them is later than so many days ago",
     )
     parser.add_argument("--preview", action="store_true", help="list them and change nothing")
     add_author(parser)

@@ -16,7 +16,7 @@ from ocpp_board.ledger.rows import Rows, Work, work_out
 from ocpp_board.messages.tokens import SIGNED, TOKENS, empty_line, empty_tokens
 from ocpp_board.records import Line
 from ocpp_board.store.database import Database
-from ocpp_board.store.plan import read_rules
+from ocpp_board.store.plan import RULES_COLUMNS, read_rules
 
 # A moment after all that a store has.
 NEVER = datetime(9999, 1, 1, tzinfo=timezone.utc)
@@ -30,8 +30,8 @@ from line l join session s on s.station = l.station and s.transaction_id = l.tra
 where coalesce(l.received, s.last_at, s.changed_at) < :before and {MAY_HAVE.format('l.line')}
 order by l.station, l.transaction_id
 """
-SESSION = """
-select s.site, s.last_at, s.changed_at, i.period, i.reading_order, i.settle, i.zone, i.events, i.readings, i.most_kw
+SESSION = f"""
+select s.site, s.last_at, s.changed_at, {', '.join(f'i.{name}' for name in RULES_COLUMNS.split(', '))}
 from session s join site i on i.site = s.site
 where s.station = :station and s.transaction_id = :transaction_id
 """

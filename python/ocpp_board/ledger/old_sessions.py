@@ -11,6 +11,7 @@ from collections.abc import Iterator, Sequence
 from dataclasses import dataclass
 from datetime import datetime, timezone
 from itertools import groupby
+from operator import attrgetter
 from pathlib import Path
 
 from ocpp_board.errors import UsageError
@@ -103,11 +104,12 @@ def choose_path(folder: Path, name: str) -> Path:
 
 def write_file(store: Database, site: str, sessions: Sequence[Row], path: Path) -> None:
     """Writes the file, whole and on disk, or not at all."""
-    fresh, rules = path.with_name(f"{path.name}.part"), find_rules(store, site) or Rules()
+    rules = find_rules(store, site) or Rules()
+    fresh = path.with_name(f"{path.name}.part")
     try:
         with open(fresh, "wb") as file:
             with zipfile.ZipFile(file, "w", zipfile.ZIP_DEFLATED) as packed:
-                for station, own in groupby(sessions, key=lambda one: one.station):
+                for station, own in groupby(sessions, attrgetter("station")):
                     for number, script in enumerate(write_scripts(store, site, rules, own), 1):
                         packed.writestr(f"{station}.{number}.script", script)
                 for table in TABLES:

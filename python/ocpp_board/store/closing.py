@@ -49,8 +49,8 @@ left join closed_session c on c.station = n.station and c.transaction_id = n.tra
 where c.station is null or not c.whole and :moved = 1 or c.lines <> n.lines or c.changed_at <> n.changed_at
     or c.settled is null and r.station is not null
 """
-# By how much the periods of these sessions differ from what is settled of them. `{seen}`: the sessions that this closing
-# saw.
+# By how much the periods of these sessions differ from what is settled of them. `{seen}`: the sessions that this
+# closing saw.
 SETTLE_PARTS = """
 insert into closed_part (station, transaction_id, starts, closing, site, parts, estimated, up, down, export_up,
     export_down)
