@@ -10,10 +10,12 @@ from collections.abc import Callable, Iterable, Iterator, Sequence
 from dataclasses import dataclass, field
 from datetime import datetime, timezone
 from functools import partial
+from operator import attrgetter
 from typing import Any, NamedTuple, Protocol
 
 from ocpp_board.ledger.answers import LineAnswer, Wish
 from ocpp_board.ledger.program import find_program
+from ocpp_board.ledger.quotas import Asking, find_refused, write_reply
 from ocpp_board.ledger.refusals import (
     CONFLICT,
     UNKNOWN_STATION,
@@ -211,10 +213,12 @@ def write_batch(
     """Writes what a batch changes, within a database transaction, and answers the rest of it."""
     sites = hold_sites(store, batch)
     leave_strays(batch, sites)
+    refuse_by_quotas(store, batch, sites)
     held = store_lines.hold_sessions(
         store, {key: sites[key[0]] for key in batch.sessions if key[0] in sites}, warm
     )
     deeds = find_done(store, batch)
+    batch.answers |= deeds
     rules = find_all_rules(store, {one.site for one in held.values()})
     works = {
         key: Work(
@@ -266,6 +270,36 @@ def leave_strays(batch: Batch, sites: dict[str, str]) -> None:
     for one in batch.others:
         if one.station not in sites:
             batch.strays.append((one, Wish("reply")))
+
+
+def refuse_by_quotas(store: Database, batch: Batch, sites: dict[str, str]) -> None:
+    """Answers messages that are above a quota of their site, which change nothing."""
+    asking = [
+        Asking(place, one, key)
+        for key, places in batch.sessions.items()
+        for place in places
+        if isinstance(one := batch.asked[place], Message)
+    ]
+    values = {id(one) for one in batch.others}
+    asking += [
+        Asking(place, one, None)
+        for place, one in enumerate(batch.asked)
+        if id(one) in values and isinstance(one, Message) and one.station in sites
+    ]
+    asking.sort(key=attrgetter("place"))
+    for place, name in find_refused(store, asking, sites).items():
+        one = batch.asked[place]
+        assert isinstance(one, Message)
+        key = (one.station, batch.wishes[place].text)
+        if key in batch.sessions:
+            batch.sessions[key].remove(place)
+            if not batch.sessions[key]:
+                del batch.sessions[key]
+        else:
+            batch.others = [other for other in batch.others if other is not one]
+        refusal = describe_message(one.text, name, one.received)
+        batch.refusals.append((one, refusal, refusal.sent_id.lower()))
+        batch.answers[place] = Answer("refused", name, write_reply(one.text, name))
 
 
 def find_all_rules(store: Database, sites: Iterable[str]) -> dict[str, Rules]:
@@ -369,7 +403,6 @@ def take_answers(
     for place in batch.sessions[key]:
         one = batch.asked[place]
         if place in deeds:
-            batch.answers[place] = deeds[place]
             continue
         answer = next(answers)
         batch.answers[place] = Answer(

@@ -123,6 +123,14 @@ class Database:
         rows = self.fetch(statement, **values)
         return rows[0] if rows else None
 
+    def has_table(self, table: str) -> bool:
+        """Whether there is a table of this name."""
+        if self.kind == "sqlite":
+            asked = "select 1 as one from sqlite_master where name = :name"
+        else:
+            asked = "select 1 as one from pg_class where oid = to_regclass(cast(:name as text))"
+        return self.fetch_one(asked, name=table) is not None
+
     def insert_each(self, table: str, rows: Sequence[Values]) -> None:
         """Inserts rows, which all have the same columns."""
         if rows:
@@ -394,11 +402,7 @@ def make_tables(database: SqliteDatabase | PostgresDatabase) -> None:
 
 def has_table(database: Database) -> bool:
     """Whether the store has tables."""
-    if database.kind == "sqlite":
-        asked = "select 1 as one from sqlite_master where name = 'store'"
-    else:
-        asked = "select 1 as one from pg_class where oid = to_regclass('store')"
-    return database.fetch_one(asked) is not None
+    return database.has_table("store")
 
 
 def list_sources() -> list[Path]:
