@@ -229,7 +229,7 @@ def write_batch(
                 one.lines,
                 list_new(batch, batch.sessions[key], deeds),
             ),
-            [row.text for row in one.refusals if row.cause == CONFLICT],
+            list_conflicts(key, one),
         )
         for key, one in held.items()
     }
@@ -311,6 +311,12 @@ def find_all_rules(store: Database, sites: Iterable[str]) -> dict[str, Rules]:
         some = store.fetch_each(f"{asked} = :site", [{"site": site} for site in sorted(sites)])
         rows = [row for one in some for row in one]
     return {row.site: read_rules(row) for row in rows}
+
+
+def list_conflicts(key: Key, held: Held) -> list[str]:
+    """The lines of messages that conflicted with a transaction's events."""
+    texts = (row.text for row in held.refusals if row.cause == CONFLICT)
+    return [f"{DELIVER}{key[0]} {one_line(text)}" for text in texts]
 
 
 def name_deed(one: Deed) -> dict[str, Any]:
@@ -569,7 +575,7 @@ def compute_again(store: Database, site: str, rules: Rules) -> int:
         works = {
             key: Work(
                 *(*key, site, rules, one.lines, no_lines),
-                [row.text for row in one.refusals if row.cause == CONFLICT],
+                list_conflicts(key, one),
                 True,
             )
             for key, one in held.items()
