@@ -13,7 +13,7 @@ from functools import partial
 from operator import attrgetter
 from typing import Any, NamedTuple, Protocol
 
-from ocpp_board.ledger.answers import LineAnswer, Wish
+from ocpp_board.ledger.answers import Wish
 from ocpp_board.ledger.program import find_program
 from ocpp_board.ledger.quotas import Asking, find_refused, write_reply
 from ocpp_board.ledger.refusals import (
@@ -31,7 +31,7 @@ from ocpp_board.ledger.refusals import (
     name_cause,
     read_levels,
 )
-from ocpp_board.ledger.rows import DELIVER, Done, Work, work_out
+from ocpp_board.ledger.rows import DELIVER, Done, Work, list_accepted, work_out
 from ocpp_board.limits import FIRST_MOMENT
 from ocpp_board.messages.texts import one_line
 from ocpp_board.messages.times import SECOND
@@ -235,7 +235,7 @@ def write_batch(
     }
     writer = Writer(store, warm is not None)
     for key, work, done in work_on(works, pool):
-        take_answers(writer, batch, key, done, held[key], deeds)
+        take_answers(writer, batch, work, done, held[key], deeds)
     writer.write()
     write_refusals(store, batch)
     write_strays(store, batch)
@@ -395,28 +395,23 @@ def work_piece(works: list[Work]) -> list[Done]:
 
 
 def take_answers(
-    writer: Writer, batch: Batch, key: Key, done: Done, held: Held, deeds: dict[int, Answer]
+    writer: Writer, batch: Batch, work: Work, done: Done, held: Held, deeds: dict[int, Answer]
 ) -> None:
     """Notes the answers to a transaction's lines, and has its lines and rows written."""
-    store = writer.store
-    answers, taken = iter(done.answers), set[int]()
-    for place in batch.sessions[key]:
+    key, store, taken = (work.station, work.transaction), writer.store, set[int]()
+    places = [place for place in batch.sessions[key] if place not in deeds]
+    for place, (outcome, name, reply, change) in zip(places, done.answers):
+        batch.answers[place] = Answer(outcome, name, reply, key[1], change)
         one = batch.asked[place]
-        if place in deeds:
-            continue
-        answer = next(answers)
-        batch.answers[place] = Answer(
-            answer.outcome, answer.name, answer.reply, key[1], answer.change
-        )
-        if isinstance(one, Deed):
-            write_deed(store, one, answer)
-        elif isinstance(one, Message):
-            if answer.outcome in ("accepted", "repeat"):
+        if isinstance(one, Message):
+            if outcome in ("accepted", "repeat"):
                 taken.add(batch.wishes[place].number)
-            elif answer.outcome in ("refused", "fault"):
-                refusal = describe_message(one.text, answer.name, one.received)
+            elif outcome in ("refused", "fault"):
+                refusal = describe_message(one.text, name, one.received)
                 batch.refusals.append((one, refusal, key[1]))
-    write_rows(writer, key, held, done)
+        elif isinstance(one, Deed):
+            write_deed(store, one, batch.answers[place])
+    write_rows(writer, work, held, done)
     untaken = [row for row in held.refusals if row.cause == UNTAKEN and row.number in taken]
     if untaken:
         store.execute_each(
@@ -425,8 +420,9 @@ def take_answers(
         )
 
 
-def write_rows(writer: Writer, key: Key, held: Held, done: Done) -> None:
+def write_rows(writer: Writer, work: Work, held: Held, done: Done) -> None:
     """Has the accepted lines of a transaction and its rows written."""
+    key = work.station, work.transaction
     if done.rows is None:
         if not held.lines:
             writer.drop_empty(key)
@@ -437,10 +433,10 @@ def write_rows(writer: Writer, key: Key, held: Held, done: Done) -> None:
         for one in done.rows.findings
     ]
     session = done.rows.session._asdict()
-    writer.add(key, held, done.accepted, session, parts, findings)
+    writer.add(key, held, list_accepted(work, done.answers), session, parts, findings)
 
 
-def write_deed(store: Database, one: Deed, answer: LineAnswer) -> None:
+def write_deed(store: Database, one: Deed, answer: Answer) -> None:
     """Adds an operator's line with its answer."""
     store.execute(
         store_lines.ADD_DEED,
@@ -449,7 +445,7 @@ def write_deed(store: Database, one: Deed, answer: LineAnswer) -> None:
         why=one.why,
         outcome=answer.outcome,
         name=answer.name,
-        count=answer.change,
+        count=answer.count,
     )
 
 
@@ -581,8 +577,8 @@ def compute_again(store: Database, site: str, rules: Rules) -> int:
             for key, one in held.items()
         }
         writer = Writer(store)
-        for key, _, done in work_on(works, None):
-            write_rows(writer, key, held[key], done)
+        for key, work, done in work_on(works, None):
+            write_rows(writer, work, held[key], done)
         writer.write()
         count, after = count + len(keys), keys[-1]
 
