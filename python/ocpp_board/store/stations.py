@@ -150,3 +150,38 @@ def set_password(
             },
         )
         note_change(store, author, "password", station, before, count_passwords(store, station))
+
+
+def write_quota(
+    store: Database, site: str, author: Author, most_open: int | None, most_bytes: int | None
+) -> tuple[int, int]:
+    """Sets the quotas of a site that are named, and gives both. Raises InputError."""
+    asked = "select most_open, most_bytes from site where site = :site"
+    with store.transaction():
+        had = store.fetch_one(asked, site=site)
+        if had is None:
+            raise InputError(f"plan quota: there is no site {site!r}; add it first")
+        quota = (
+            had.most_open if most_open is None else most_open,
+            had.most_bytes if most_bytes is None else most_bytes,
+        )
+        store.execute(
+            "update site set most_open = :open, most_bytes = :bytes where site = :site",
+            **{"site": site, "open": quota[0], "bytes": quota[1]},
+        )
+        before, after = (
+            json.dumps(dict(zip(("most_open", "most_bytes"), one)))
+            for one in ((had.most_open, had.most_bytes), quota)
+        )
+        note_change(store, author, "site", site, before, after)
+    return quota
+
+
+def read_figures(store: Database) -> tuple[int, dict[str, float]]:
+    """For who watches: how many messages are of stations that no site has, and seconds since each site's last closing,
+    of those that were closed once."""
+    (row,) = store.fetch("select count(*) as n from stray")
+    if not store.has_table("closing"):
+        return row.n, {}
+    rows = store.fetch("select site, max(at) as closed_at from closing group by site")
+    return row.n, {one.site: (now() - one.closed_at).total_seconds() for one in rows}
