@@ -68,9 +68,7 @@ class Words(NamedTuple):
             )
         why = " ".join(self.why.split())
         if not SHORTEST <= len(why) <= LONGEST or not why.isprintable():
-            raise Wrong(
-                HTTPStatus.BAD_REQUEST, f"say why in {SHORTEST} to {LONGEST} characters"
-            )
+            raise Wrong(HTTPStatus.BAD_REQUEST, f"say why in {SHORTEST} to {LONGEST} characters")
         return self._replace(number=str(int(self.number)), why=why)
 
     def write(self) -> str:
@@ -107,7 +105,7 @@ def preview(store: Database, words: Words) -> Preview | None:
         return None
     lines = next(iter(read_lines(store, [key])))
     refused = next(iter(read_refusals(store, [key])))
-    conflicts = [(one.text, one.times) for one in refused if one.cause == CONFLICT]
+    conflicts = [one.text for one in refused if one.cause == CONFLICT]
     line = Line(0, f"{words.word} {key[0]} {key[1]} {words.number}")
     works = [
         Work(*key, row.site, rules, lines, new, conflicts, True) for new in (list[Line](), [line])
@@ -135,8 +133,8 @@ def compare_rows(before: Rows, after: Rows, zone: str) -> list[TableRow]:
     parts = {one.starts: find_net(one) for one in before.parts}
     others = {one.starts: find_net(one) for one in after.parts}
     for starts in sorted(parts.keys() | others.keys()):
-        nets = parts.get(starts, 0), others.get(starts, 0)
-        pairs.append((f"Period {calendar.minute(starts)}, kWh", *map(kwh, nets)))
+        name = f"Period {calendar.minute(starts)}, kWh"
+        pairs.append((name, kwh(parts.get(starts, 0)), kwh(others.get(starts, 0))))
     return [TableRow(pair) for pair in pairs if pair[1] != pair[2]]
 
 

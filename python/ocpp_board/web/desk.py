@@ -274,7 +274,13 @@ def is_for_api(http: HttpRequest) -> bool:
 
 def make_plain_page(name: str, title: str, status: int = 200, **values: Any) -> HTMLResponse:
     """Makes a page of nobody: one to sign in, or of a fault."""
-    front = {"title": title, "whole": "", "refresh": None, "operator": "", "out_token": ""}
+    front: dict[str, Any] = {
+        "title": title,
+        "whole": "",
+        "refresh": None,
+        "operator": "",
+        "out_token": "",
+    }
     front |= {"bar": (), "trail": (), "stamp": None}
     return HTMLResponse(render(name, **front, **values), status)
 

@@ -90,7 +90,9 @@ def hash_secret(secret: str) -> str:
 def find_mistake(password: str) -> str:
     """Why a text can't be an operator's password; nothing where it can."""
     if not SHORTEST <= len(password) <= LONGEST:
-        return f"a password has {SHORTEST} to {LONGEST} characters, and this one has {len(password)}"
+        return (
+            f"a password has {SHORTEST} to {LONGEST} characters, and this one has {len(password)}"
+        )
     return "" if password.isprintable() else "a password has no control characters"
 
 
@@ -122,7 +124,9 @@ def write_operator(
 ) -> None:
     """Adds an operator, or changes the role and the sites of one. Raises InputError."""
     if not NAME.fullmatch(name):
-        raise InputError(f"{name!r} is no name of an operator; names have 1 to 64 of a-z 0-9 . _ @ + -")
+        raise InputError(
+            f"{name!r} is no name of an operator; names have 1 to 64 of a-z 0-9 . _ @ + -"
+        )
     if role not in ROLES:
         raise InputError(f"{role!r} is no role; take one of {', '.join(ROLES)}")
     for site in sites:
@@ -195,7 +199,9 @@ def add_token(
             note=note,
             now=now(),
         )
-        note_change(store, author, "token", operator, "", f"{note} {role} {' '.join(sorted(sites))}")
+        note_change(
+            store, author, "token", operator, "", f"{note} {role} {' '.join(sorted(sites))}"
+        )
     return secret
 
 

@@ -54,7 +54,9 @@ def find_site(asked: Request, context: Context) -> Site:
     name = asked.path("site")
     if asked.operator.sees(name) and (site := context.reader.find_rules(name)):
         return site
-    raise Wrong(HTTPStatus.NOT_FOUND, f"there is no site {name!r}, or not for {asked.operator.name}")
+    raise Wrong(
+        HTTPStatus.NOT_FOUND, f"there is no site {name!r}, or not for {asked.operator.name}"
+    )
 
 
 def find_station(asked: Request, context: Context, site: Site) -> StationSummary:
