@@ -11,6 +11,7 @@ import functools
 import io
 import json
 from collections.abc import Callable, Mapping, Sequence
+from contextlib import nullcontext
 from datetime import date, datetime, time, timedelta, timezone
 from http import HTTPStatus
 from pathlib import Path
@@ -25,8 +26,9 @@ from starlette.routing import BaseRoute, Route
 from ocpp_board.energies import FLOW, MWH_OF_A_KWH, Flow
 from ocpp_board.errors import UsageError
 from ocpp_board.limits import TRANSACTION
-from ocpp_board.web.desk import Endpoint, Request, View, Wrong, check_text, find_desk
-from ocpp_board.web.signing import READER
+from ocpp_board.store.database import Database
+from ocpp_board.web.desk import Desk, Endpoint, Request, View, Wrong, check_text, find_desk
+from ocpp_board.web.signing import Operator
 from ocpp_board.writers.bills import BillOptions, list_bills, read_month, write_csv
 from ocpp_board.writers.calendar import find_calendar
 from ocpp_board.writers.pages.reader import read_gaps
@@ -39,9 +41,9 @@ FIRST, LAST = (datetime(year, 1, 1, tzinfo=timezone.utc) for year in (2000, 2100
 DAY, SPAN, LONGEST = timedelta(days=1), timedelta(days=31), timedelta(days=366)
 OPENAPI = "application/vnd.oai.openapi+json"
 COUNTS = ("events", "voided", "transactions", "complete", "missing")
-FIGURES = (
-    "events, voided, transactions, complete_transactions, missing, up, down, export_up, export_down"
-)
+FIGURES = """
+b.events, b.voided, b.transactions, b.complete_transactions, b.missing, b.up, b.down, b.export_up, b.export_down
+"""
 SITES = f"""
 select i.site, i.zone, i.period, i.reading_order, i.settle, {FIGURES},
     (select count(*) from station t where t.site = i.site) as stations,
@@ -59,28 +61,37 @@ from session s join session_state t on t.station = s.station and t.transaction_i
 Json = dict[str, Any]
 
 
-def open_api(view: View) -> Endpoint:
-    """Makes a view an endpoint for programs with a token."""
+def open_api(has_snapshot: bool = True) -> Callable[[View], Endpoint]:
+    """Makes a view an endpoint for programs with a token. `has_snapshot`: all that it reads is of one moment."""
 
-    @functools.wraps(view)
-    async def endpoint(http: HttpRequest) -> Response:
-        return await run_in_threadpool(answer, http)
+    def make(view: View) -> Endpoint:
+        @functools.wraps(view)
+        async def endpoint(http: HttpRequest) -> Response:
+            return await run_in_threadpool(answer, http)
 
-    def answer(http: HttpRequest) -> Response:
-        desk = find_desk(http)
-        kind, _, secret = http.headers.get("authorization", "").partition(" ")
-        with desk.stores.take() as store:
-            holder = None
-            if kind.lower() == "bearer":
-                holder = desk.sign_ins.find_holder(store, secret.strip())
-            if holder is None:
-                body = {"status": 401, "fault": "a token is asked for that is good"}
-                return JSONResponse(body, 401, {"www-authenticate": 'Bearer realm="ocpp_board"'})
-            assert holder.may(READER)
-            with store.snapshot():
-                return view(Request(http, desk, store, holder, "", {}))
+        def answer(http: HttpRequest) -> Response:
+            desk = find_desk(http)
+            with desk.stores.take() as store:
+                holder = find_holder(desk, store, http)
+                if holder is None:
+                    body = {"status": 401, "fault": "a token is asked for that is good"}
+                    head = {"www-authenticate": 'Bearer realm="ocpp_board"'}
+                    return JSONResponse(body, 401, head)
+                asked = Request(http, desk, store, holder, "", {})
+                with store.snapshot() if has_snapshot else nullcontext():
+                    return view(asked)
 
-    return endpoint
+        return endpoint
+
+    return make
+
+
+def find_holder(desk: Desk, store: Database, http: HttpRequest) -> Operator | None:
+    """Whose token a request has; None where it has none that is good."""
+    kind, _, secret = http.headers.get("authorization", "").partition(" ")
+    if kind.lower() != "bearer":
+        return None
+    return desk.sign_ins.find_holder(store, secret.strip())
 
 
 # Pages of a list ------------------------------------------------------------------------------------------------------
@@ -190,7 +201,7 @@ def find_site(asked: Request) -> Any:
 # Endpoints ------------------------------------------------------------------------------------------------------------
 
 
-@open_api
+@open_api()
 def list_sites(asked: Request) -> Response:
     """The sites that the token sees."""
     paging = read_paging(asked, [""])
@@ -199,7 +210,7 @@ def list_sites(asked: Request) -> Response:
     return JSONResponse(paging.make_page("sites", found, lambda row: [row["site"]]))
 
 
-@open_api
+@open_api()
 def show_board(asked: Request) -> Response:
     """A site's board."""
     site, paging = find_site(asked), read_paging(asked, [""])
@@ -218,7 +229,7 @@ def show_board(asked: Request) -> Response:
     return JSONResponse({**write_site(site), **page, "stations_planned": site.stations})
 
 
-@open_api
+@open_api()
 def list_periods(asked: Request) -> Response:
     """The periods of a site's stations."""
     site, paging = find_site(asked), read_paging(asked, [FIRST.isoformat(), ""])
@@ -317,7 +328,7 @@ def read_moment(text: str, name: str, zone: str, default: datetime, days: int) -
     return at.astimezone(timezone.utc)
 
 
-@open_api
+@open_api()
 def list_refusals(asked: Request) -> Response:
     """What was refused at a site."""
     keys = ("station", "cause", "transaction", "number", "what")
@@ -344,7 +355,7 @@ def list_refusals(asked: Request) -> Response:
     return JSONResponse({"site": site.site, "zone": site.zone, **page})
 
 
-@open_api
+@open_api()
 def list_findings(asked: Request) -> Response:
     """What is doubtful at a site."""
     keys = ("station", "transaction", "kind")
@@ -371,12 +382,17 @@ def list_findings(asked: Request) -> Response:
     return JSONResponse({"site": site.site, "zone": site.zone, **page})
 
 
-@open_api
+@open_api(has_snapshot=False)
 def write_month(asked: Request) -> Response:
     """A site's month for billing."""
     site, tokens = find_site(asked), asked.word("tokens", TOKENS[0])
     if tokens not in TOKENS:
         raise Wrong(HTTPStatus.BAD_REQUEST, f"tokens is one of {', '.join(TOKENS)}")
+    if TOKENS.index(tokens) > TOKENS.index(asked.desk.tokens):
+        raise Wrong(
+            HTTPStatus.FORBIDDEN,
+            f"this server writes tokens as {asked.desk.tokens!r}; its option --tokens says so",
+        )
     try:
         month = read_month(asked.word("month"))
     except UsageError as fault:
@@ -386,7 +402,7 @@ def write_month(asked: Request) -> Response:
     return Response(file.getvalue(), media_type="text/csv")
 
 
-@open_api
+@open_api()
 def list_transactions(asked: Request) -> Response:
     """The transactions of a station."""
     name, paging = asked.path("station"), read_paging(asked, [""])
@@ -434,7 +450,7 @@ def write_transaction(row: Any, zones: Mapping[str, str]) -> Json:
     }
 
 
-@open_api
+@open_api()
 def show_transaction(asked: Request) -> Response:
     """A transaction with its lines."""
     name, station = asked.path("transaction"), asked.word("station")
