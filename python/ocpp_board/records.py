@@ -84,7 +84,8 @@ class Limits:
 @dataclass(frozen=True, slots=True)
 class Rules:
     """A site's rules: the length of its periods in seconds, the order of readings, the rule of settling, what a
-    transaction may keep, the zone of its days, and the greatest power of an EVSE that can be, in kW."""
+    transaction may keep, the zone of its days, and the greatest power of an EVSE that can be, in kW.
+    """
 
     period: int = 900
     order: str = "moment"

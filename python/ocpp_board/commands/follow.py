@@ -40,8 +40,9 @@ from ocpp_board.commands.options import (
     add_zones,
     choose_program,
 )
-from ocpp_board.commands.report import Meter, count_of, open_pool
+from ocpp_board.commands.reading import Meter
 from ocpp_board.commands.renewing import Renewer, Shown
+from ocpp_board.commands.report import count_of, open_pool
 from ocpp_board.errors import InputError, OcppBoardError, StoreError, UsageError
 from ocpp_board.escapes import shown, without_controls
 from ocpp_board.ledger.engine import Pool, settle, take_strays
@@ -155,7 +156,11 @@ def choose_options(parser: argparse.ArgumentParser, words: argparse.Namespace) -
     if words.source and len(words.logs) > 1:
         parser.error("--source names one log")
     plan = replace(choose_plan(parser, words), stations=None)
-    asked = Shown(words.out, words.every, words.oldest, TableOptions(words.tokens)) if words.out else None
+    asked = (
+        Shown(words.out, words.every, words.oldest, TableOptions(words.tokens))
+        if words.out
+        else None
+    )
     return Options(
         words.logs,
         words.store,
@@ -186,7 +191,9 @@ class FollowedLog:
         """Opens the log where it was read up to, and gives whether it is there. Raises OSError."""
         if self.follower:
             return True
-        row = store.fetch_one("select place, front from source where origin = :name", name=self.name)
+        row = store.fetch_one(
+            "select place, front from source where origin = :name", name=self.name
+        )
         place = Place(row.place, row.front) if row else None
         try:
             self.follower = Follower(self.path, place, self.report_cut)
@@ -206,7 +213,9 @@ class FollowedLog:
 
     def report_cut(self, what: str) -> None:
         """Reports that the log was cut short, and which line was the last before."""
-        last = f"; the last line before the cut that was taken is of {self.last}" if self.last else ""
+        last = (
+            f"; the last line before the cut that was taken is of {self.last}" if self.last else ""
+        )
         log.warning("%s%s", what, last)
 
     def read(self, most: int) -> tuple[list[Asked], Place | None]:
@@ -320,7 +329,8 @@ class Follow:
         self.is_ending = False
         self.is_caught_up = False
         self.planned, self.due = 0.0, time.monotonic()
-        self.meter, self.until = Meter(), None
+        self.meter = Meter()
+        self.until: datetime | None = None
         self.read_plan()
         for site in dict.fromkeys(self.plan.site_of.values()):
             self.loader.plan_site(site, None)
@@ -379,7 +389,7 @@ class Follow:
             self.loader.plan(self.find_new(records))
             pool = self.loader.pool if len(records) > MANY else None
             also = partial(write_place, one.name, place)
-            answers = settle(self.store, records, pool, also)
+            answers = settle(self.store, records, pool, also=also)
             for record, answer in zip(records, answers):
                 self.loader.note(record.station, answer)
 
@@ -418,7 +428,9 @@ class Follow:
         until = time.monotonic() + pause
         while not self.is_ending:
             try:
-                line = self.lines.get(timeout=max(0.0, until - time.monotonic()) if pause else 0.001)
+                line = self.lines.get(
+                    timeout=max(0.0, until - time.monotonic()) if pause else 0.001
+                )
             except queue.Empty:
                 return
             try:
@@ -455,8 +467,7 @@ class Follow:
         )
         if row is None or row.events is None:
             return "fault UnknownStation"
-        names = ("events", "voided", "transactions", "complete", "missing")
-        names += ("up", "down", "export_up", "export_down")
+        names = "events voided transactions complete missing up down export_up export_down".split()
         return "total " + " ".join(f"{name}={int(value)}" for name, value in zip(names, row))
 
     def wait(self, pause: float) -> None:

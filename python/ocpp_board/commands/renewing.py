@@ -47,6 +47,8 @@ class Renewer:
         self.book = FindingBook(store)
         self.table_writer = TableWriter(store, shown.out, shown.tables)
         self.pages, self.tables = 0, 0
+        # How many rows the tables without days had when they were written; None where that is not known.
+        self.others: Row | None = None
         self.mark = self.read_mark()
         # By transaction, when those changed that are written.
         self.seen = dict[tuple[str, str], datetime]()
@@ -69,7 +71,9 @@ class Renewer:
     def renew(self, changed: Changed, until: datetime | None) -> None:
         """Writes what changed. Raises OSError and StoreError."""
         now = datetime.now(timezone.utc)
-        self.writer.options = self.options = replace(self.options, until=until or self.options.until)
+        self.writer.options = self.options = replace(
+            self.options, until=until or self.options.until
+        )
         if self.mark is None:
             self.pages += self.writer.write_all()
             self.write_all_tables()
@@ -90,7 +94,9 @@ class Renewer:
             mark=mark - LATE,
         )
         new = [
-            row for row in rows if self.seen.get((row.station, row.transaction_id)) != row.changed_at
+            row
+            for row in rows
+            if self.seen.get((row.station, row.transaction_id)) != row.changed_at
         ]
         self.seen |= {(row.station, row.transaction_id): row.changed_at for row in rows}
         return new
@@ -102,48 +108,57 @@ class Renewer:
     def write_all_tables(self) -> None:
         """Writes the tables of all days, and the others. Raises OSError."""
         for site in list_sites(self.store):
-            row = self.store.fetch_one(
-                "select min(first_at) as first_at, max(last_at) as last_at from session where site = :site",
-                site=site.site,
-            )
             rows = self.store.fetch(
                 "select distinct first_at, last_at from session where site = :site and events > 0",
                 site=site.site,
             )
             days = {day for one in rows for day in list_days(site, one.first_at, one.last_at)}
-            assert row is not None
             self.write_days(site, days)
+            self.make_tables(site, None).write_findings()
+            self.tables += 1
             self.write_others(site)
+        self.others = self.count_others()
         self.tables += self.table_writer.write_strays()
 
     def write_tables(self, found: Changed, rows: list[Row]) -> None:
         """Writes the tables of what changed. Raises OSError."""
-        by_site: dict[str, set[date]] = {}
         sites = {site.site: site for site in list_sites(self.store)}
+        days: dict[str, set[date]] = {}
+        stations: dict[str, set[str]] = {}
         for row in rows:
-            days = by_site.setdefault(row.site, set())
-            days.update(list_days(sites[row.site], row.first_at, row.last_at))
-        for station in {station for station, _ in found}:
-            self.book.forget(station)
-        for name, days in by_site.items():
-            self.write_days(sites[name], days)
-        if any(transaction is None for _, transaction in found):
-            for site in self.find_refused_sites(found, sites):
-                self.write_others(site)
+            site = sites[row.site]
+            days.setdefault(row.site, set()).update(list_days(site, row.first_at, row.last_at))
+            stations.setdefault(row.site, set()).add(row.station)
+        for name, some in days.items():
+            self.write_days(sites[name], some)
+            if self.book.renew(name, sorted(stations[name])):
+                self.make_tables(sites[name], None).write_findings()
+                self.tables += 1
+        before, self.others = self.others, self.count_others()
+        if self.others != before:
+            for name in self.find_sites(found) if before else sites:
+                self.write_others(sites[name])
             self.tables += self.table_writer.write_strays()
 
-    def find_refused_sites(self, found: Changed, sites: dict[str, Site]) -> list[Site]:
-        """The sites of stations of which something was refused."""
-        stations = {station for station, transaction in found if transaction is None}
-        rows = self.store.fetch("select station, site from station")
-        names = {row.site for row in rows if row.station in stations}
-        return [site for name, site in sites.items() if name in names]
+    def count_others(self) -> Row:
+        """How many rows the tables have that have no days."""
+        return self.store.fetch_one(
+            "select (select count(*) from deed) as deeds, (select count(*) from mended) as mended, "
+            "(select count(*) from refusal) as refusals, (select sum(times) from refusal) as refused, "
+            "(select count(*) from stray) as strays, (select sum(times) from stray) as stray_times"
+        )
+
+    def find_sites(self, found: Changed) -> list[str]:
+        """The sites of stations of which something changed."""
+        stations = sorted({station for station, _ in found})
+        asked = "select site from station where station = :station"
+        rows = self.store.fetch_each(asked, [{"station": station} for station in stations])
+        return sorted({row.site for some in rows for row in some})
 
     def write_days(self, site: Site, days: Collection[date]) -> None:
         """Writes the tables of days. Raises OSError."""
         for day in sorted(days):
-            one = SiteTables(self.store, self.shown.out, site, self.shown.tables, day, self.book)
-            one.folder.mkdir(parents=True, exist_ok=True)
+            one = self.make_tables(site, day)
             one.write_periods()
             one.write_transactions()
             one.write_signed()
@@ -151,10 +166,15 @@ class Renewer:
 
     def write_others(self, site: Site) -> None:
         """Writes the tables that have no days. Raises OSError."""
-        one = SiteTables(self.store, self.shown.out, site, self.shown.tables, None, self.book)
-        one.folder.mkdir(parents=True, exist_ok=True)
-        one.write_findings()
-        self.tables += 1 + one.write_refused() + one.write_operator() + one.write_mended()
+        one = self.make_tables(site, None)
+        self.tables += one.write_refused() + one.write_operator() + one.write_mended()
+
+    def make_tables(self, site: Site, day: date | None) -> SiteTables:
+        """The tables of a site, or of one of its days. Raises OSError."""
+        out, options = self.shown.out, self.shown.tables
+        tables = SiteTables(self.store, out, site, options, day, self.book)
+        tables.folder.mkdir(parents=True, exist_ok=True)
+        return tables
 
 
 def list_days(site: Site, first: datetime | None, last: datetime | None) -> list[date]:

@@ -94,7 +94,8 @@ def settle(
 ) -> list[Answer]:
     """Answers what is asked, in its order, once all that it changes is committed. Raises StoreError and ProgramError,
     and then nothing has changed. `pool`: processes among which texts and transactions are parted; `also`: is called
-    within the database transaction, right before its commit; `warm`: what this process stored last."""
+    within the database transaction, right before its commit; `warm`: what this process stored last.
+    """
     batch = Batch(asked, ask_program(asked, pool))
     sort_asked(batch)
     find_strangers(store, batch)
@@ -103,8 +104,9 @@ def settle(
             kept = write_batch(store, batch, pool, warm)
             if also:
                 also(store)
-        for key, one in kept.items() if warm else ():
-            warm.keep(key, one)
+        if warm is not None:
+            for key, one in kept.items():
+                warm.keep(key, one)
     return [batch.answers[place] for place in range(len(asked))]
 
 

@@ -124,6 +124,11 @@ class StationPlan:
         self.is_fixed = asked.stations is not None
         self.read_stations()
 
+    @property
+    def reads_sites(self) -> bool:
+        """Whether lines say which site a station has."""
+        return not self.asked.has_sites
+
     def read_stations(self) -> None:
         """Reads the file of stations. Raises OSError, and UsageError."""
         try:
@@ -210,6 +215,8 @@ class OpenPlan(StationPlan):
 
 class StorePlan(OpenPlan):
     """The stations of a store, to which a file and one site of all others add. What lines say of sites is not read."""
+
+    reads_sites = False
 
     def place(self, entry: Entry) -> tuple[str, str]:
         """The site and the station of a line; the site is empty where no site has the station. Raises Refused where the

@@ -520,11 +520,6 @@ class FindingBook:
         self.store = store
         # By site and station.
         self.sites: dict[str, dict[str, list[Row]]] = {}
-        self.gone = set[str]()
-
-    def forget(self, station: str) -> None:
-        """Something changed at a station."""
-        self.gone.add(station)
 
     def read(self, site: str) -> list[Row]:
         """What is doubtful at a site."""
@@ -532,13 +527,22 @@ class FindingBook:
         if known is None:
             rows = self.store.fetch(self.STATEMENT, site=site)
             known = self.sites[site] = group_rows(rows, lambda row: row.station)
-        else:
-            for station in sorted(self.gone):
-                known[station] = self.store.fetch(
-                    f"{self.STATEMENT} and f.station = :station", site=site, station=station
-                )
-        self.gone = set()
         return [row for some in known.values() for row in some]
+
+    def renew(self, site: str, stations: Iterable[str]) -> bool:
+        """Reads again what is doubtful at these stations of a site, and gives whether it is otherwise than before."""
+        known = self.sites.get(site)
+        if known is None:
+            self.read(site)
+            return True
+        is_other = False
+        for station in stations:
+            rows = self.store.fetch(
+                f"{self.STATEMENT} and f.station = :station", site=site, station=station
+            )
+            if sorted(map(str, rows)) != sorted(map(str, known.get(station, []))):
+                known[station], is_other = rows, True
+        return is_other
 
 
 def rank_finding(row: Row) -> tuple[int, int, str, bool, str, int]:
