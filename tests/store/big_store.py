@@ -51,15 +51,22 @@ def write_message(station: str, tx: str, number: int, kind: str, at: datetime, w
 
 
 def make_session(
-    draw: random.Random, site: str, station: str, tx: str, began: datetime
+    draw: random.Random,
+    site: str,
+    station: str,
+    tx: str,
+    began: datetime,
+    registers: dict[tuple[str, int], int],
 ) -> tuple[dict[str, Any], list[dict[str, Any]]]:
-    """Makes the row of a session and its parts."""
+    """Makes the row of a session and its parts. `registers`: what those of EVSEs read."""
     quarters = draw.randrange(8, 17)
     begin = began.replace(minute=began.minute // 15 * 15, second=0)
     lacks = draw.randrange(50) == 0
     energies = [draw.randrange(1_000, 5_500) * 1_000 for _ in range(quarters)]
     ended = begin + quarters * QUARTER
-    register = draw.randrange(10**9) * 1_000
+    evse = 1 + began.hour // 4 % 2
+    register = registers.setdefault((station, evse), draw.randrange(10**6) * 1_000)
+    registers[station, evse] += sum(energies)
     session: dict[str, Any] = {
         "station": station,
         "transaction_id": tx,
@@ -67,7 +74,7 @@ def make_session(
         "sent_id": tx.upper(),
         "lines": quarters + 1,
         "events": quarters + 1 - lacks,
-        "evse": draw.randrange(1, 3),
+        "evse": evse,
         "voided": 0,
         "first_number": 0,
         "last_number": quarters,
@@ -165,6 +172,7 @@ def fill(
 ) -> int:
     """Fills a store, and gives how many sessions it has."""
     draw, writer, count = random.Random(7), Writer(store), 0
+    registers = dict[tuple[str, int], int]()
     for one in range(sites):
         site = f"site-{one:03}"
         writer.add("site", {"site": site, "zone": "Europe/Berlin" if one % 2 else "UTC"})
@@ -179,7 +187,9 @@ def fill(
                     at = BEGIN + timedelta(days=day, hours=number * 24 // sessions)
                     at += timedelta(seconds=draw.randrange(3_600 * max(1, 20 // sessions)))
                     tx = f"tx{day:03}{number:02}-{station.lower()}"
-                    session, parts = make_session(draw, f"site-{one:03}", station, tx, at)
+                    session, parts = make_session(
+                        draw, f"site-{one:03}", station, tx, at, registers
+                    )
                     writer.add("session", session)
                     for part in parts:
                         writer.add("part", part)

@@ -1,16 +1,23 @@
 """Options that several commands take."""
 
 import argparse
+import getpass
 import os
+import re
 import shutil
 from collections.abc import Mapping
+from datetime import date, datetime, timezone
+from decimal import Decimal
 
 from ocpp_board.errors import UsageError
 from ocpp_board.escapes import shown
 from ocpp_board.ledger.findings import MOST_KW
 from ocpp_board.ledger.program import LIBRARY_NAME, PROGRAM_NAME, find_program
 from ocpp_board.limits import is_name
+from ocpp_board.store.plan import Author
 from ocpp_board.writers.tokens import TOKENS
+
+ENERGY = re.compile(r"-?[0-9]{1,7}(\.[0-9]{1,6})?")
 
 
 def add_store(parser: argparse.ArgumentParser, is_required: bool = True) -> None:
@@ -106,3 +113,80 @@ def add_zones(parser: argparse.ArgumentParser) -> None:
 def find_by_site(asked: Mapping[str, str], site: str) -> str | None:
     """What is asked of a site; None where nothing is."""
     return asked.get(site, asked.get(""))
+
+
+def add_site(parser: argparse.ArgumentParser) -> None:
+    """The option that names a site."""
+    parser.add_argument("--site", required=True, metavar="SITE", help="which site")
+
+
+def add_who(parser: argparse.ArgumentParser) -> None:
+    """The option that names who asks for a change."""
+    parser.add_argument(
+        "--who",
+        default=None,
+        metavar="NAME",
+        help="who asks for it (default: the user of this session)",
+    )
+
+
+def add_author(parser: argparse.ArgumentParser) -> None:
+    """The options that name who asks for a change, and why."""
+    parser.add_argument("--why", required=True, metavar="REASON", help="the reason, which is kept")
+    add_who(parser)
+
+
+def read_who(words: argparse.Namespace) -> str:
+    """Who asks for a change."""
+    return words.who or getpass.getuser()
+
+
+def read_author(words: argparse.Namespace) -> Author:
+    """Who asks for a change, and why."""
+    return Author(read_who(words), words.why)
+
+
+def add_form(parser: argparse.ArgumentParser) -> None:
+    """The option that chooses the form of CSV."""
+    parser.add_argument(
+        "--csv",
+        dest="form",
+        choices=("comma", "semicolon"),
+        default="comma",
+        help="semicolon: for spreadsheets that want a decimal comma (default: comma)",
+    )
+
+
+def read_day(text: str) -> date:
+    """A day of the command line. Raises ArgumentTypeError."""
+    try:
+        return date.fromisoformat(text)
+    except ValueError:
+        raise argparse.ArgumentTypeError(f"{text!r} is no day such as 2026-03-01") from None
+
+
+def read_time(text: str) -> datetime:
+    """A moment of the command line, with an offset. Raises ArgumentTypeError."""
+    try:
+        at = datetime.fromisoformat(text)
+    except ValueError:
+        at = datetime.min
+    if at.tzinfo is None:
+        raise argparse.ArgumentTypeError(f"{text!r} is no time such as 2026-03-01T10:00:00Z")
+    return at.astimezone(timezone.utc)
+
+
+def read_mwh(text: str) -> int:
+    """An energy in kWh of the command line, in mWh. Raises ArgumentTypeError."""
+    if not ENERGY.fullmatch(text):
+        raise argparse.ArgumentTypeError(
+            f"{text!r} is no energy in kWh with at most six decimals, such as 4711.5"
+        )
+    return int(Decimal(text).scaleb(6))
+
+
+def read_count(text: str) -> int:
+    """A count of days, hours or years. Raises ArgumentTypeError."""
+    if not text.isdecimal() or not 1 <= int(text) <= 36_500:
+        raise argparse.ArgumentTypeError(f"{text!r} is no count from 1 to 36500")
+    return int(text)

@@ -3,6 +3,7 @@
 import json
 from collections.abc import Sequence
 from datetime import datetime, timedelta, timezone
+from string import ascii_lowercase
 from typing import Any
 
 from ocpp_board.energies import Flow
@@ -21,8 +22,9 @@ from ocpp_board.writers.pages.facts import (
 
 # The longest session that a day's page looks for.
 LONGEST = timedelta(days=62)
-# Stations that a statement names.
+# Stations that a statement names, and the names of its parameters, which have letters only.
 MOST_NAMES = 500
+NAMES = [f"s_{one}{other}" for one in ascii_lowercase for other in ascii_lowercase][:MOST_NAMES]
 FLOWS = "up, down, export_up, export_down"
 TOTALS = f"transactions, complete_transactions, events, voided, missing, {FLOWS}"
 SESSION = (
@@ -108,6 +110,12 @@ class Reader:
         )
         return [Site(*row) for row in rows]
 
+    def find_rules(self, site: str) -> Site | None:
+        """A site; None where there is no such one."""
+        sql = "select site, zone, period, reading_order, settle from site where site = :site"
+        rows = self.store.fetch(sql, site=site)
+        return Site(*rows[0]) if rows else None
+
     def stations(self, site: str) -> list[str]:
         """The stations that the plan has at a site, by name."""
         rows = self.store.fetch(
@@ -181,9 +189,7 @@ class Reader:
         station and time serves."""
         found = dict[str, list[Period]]()
         for first in range(0, len(stations), MOST_NAMES):
-            names = {
-                f"s{place}": one for place, one in enumerate(stations[first : first + MOST_NAMES])
-            }
+            names = dict(zip(NAMES, stations[first : first + MOST_NAMES]))
             sql = (
                 f"select starts, {FLOWS}, estimated, lacks_numbers, station from board_period "
                 "where site = :site and starts >= :begin and starts < :end and station in "
