@@ -28,6 +28,7 @@ COMMANDS = {
     "feed": "takes the events of queues",
     "web": "shows a store's pages in a browser, takes operators' deeds, and answers programs",
     "plan": "shows and changes sites, stations, passwords and operators",
+    "operator": "says who may use web: operators, passwords, tokens",
     "operate": "voids, restores and erases events",
     "close-day": "closes a site's settlement days",
     "corrections": "lists what closings changed of settled figures",

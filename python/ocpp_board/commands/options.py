@@ -4,13 +4,15 @@ import argparse
 import getpass
 import os
 import re
+import shutil
 from collections.abc import Mapping
 from datetime import date, datetime, timezone
 from decimal import Decimal
 
+from ocpp_board.errors import UsageError
 from ocpp_board.escapes import shown
 from ocpp_board.ledger.findings import MOST_KW
-from ocpp_board.ledger.program import LIBRARY_NAME, PROGRAM_NAME
+from ocpp_board.ledger.program import LIBRARY_NAME, PROGRAM_NAME, find_program
 from ocpp_board.limits import is_name
 from ocpp_board.store.plan import Author
 from ocpp_board.writers.tokens import TOKENS
@@ -39,10 +41,15 @@ def add_program(parser: argparse.ArgumentParser) -> None:
 
 
 def choose_program(path: str | None) -> None:
-    """Has this process and those that it starts run the program or the library of this path."""
+    """Has this process and those that it starts run the program or the library of this path. Raises UsageError where
+    there is none."""
     if path:
-        os.environ.pop(PROGRAM_NAME, None)
-        os.environ[LIBRARY_NAME if ".so" in os.path.basename(path) else PROGRAM_NAME] = path
+        if not (os.path.isfile(path) or shutil.which(path)):
+            raise UsageError(f"there is no program {path}; build it, or leave --program out")
+        is_library = ".so" in os.path.basename(path)
+        os.environ[LIBRARY_NAME] = path if is_library else ""
+        os.environ[PROGRAM_NAME] = "" if is_library else path
+        find_program.cache_clear()
 
 
 def read_power(text: str) -> int:

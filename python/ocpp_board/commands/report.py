@@ -70,6 +70,7 @@ class Options:
     is_script: bool
     processes: int
     tables: TableOptions
+    written: datetime | None
     until: datetime | None
     oldest: int | None
 
@@ -129,6 +130,12 @@ def add_tables(parser: argparse.ArgumentParser) -> None:
         help="how old data may be when pages are written; they say so if it is older",
     )
     parser.add_argument(
+        "--written",
+        metavar="TIME",
+        type=read_moment,
+        help="the time of writing that pages show (default: now)",
+    )
+    parser.add_argument(
         "--until",
         metavar="TIME",
         type=read_moment,
@@ -164,6 +171,7 @@ def choose_options(parser: argparse.ArgumentParser, words: argparse.Namespace) -
         shape.form == "json" and shape.regex is None,
         words.processes,
         TableOptions(words.tokens, words.raw, words.all_periods, words.first, words.last),
+        words.written,
         words.until,
         words.oldest,
     )
@@ -291,6 +299,7 @@ def write_pages(options: Options, store: Database) -> int:
     asked = pages.PageOptions(
         tokens=options.tables.tokens,
         until=until,
+        written=options.written,
         oldest=options.oldest,
         first=options.tables.first,
         last=options.tables.last,

@@ -110,6 +110,12 @@ class Reader:
         )
         return [Site(*row) for row in rows]
 
+    def find_rules(self, site: str) -> Site | None:
+        """A site; None where there is no such one."""
+        sql = "select site, zone, period, reading_order, settle from site where site = :site"
+        rows = self.store.fetch(sql, site=site)
+        return Site(*rows[0]) if rows else None
+
     def stations(self, site: str) -> list[str]:
         """The stations that the plan has at a site, by name."""
         rows = self.store.fetch(
