@@ -38,7 +38,9 @@ def read_patience(text: str) -> float:
     except ValueError:
         seconds = 0.0
     if not LEAST_PATIENCE <= seconds <= 3600:
-        raise argparse.ArgumentTypeError(f"no time from {LEAST_PATIENCE:.0f} to 3600 seconds: {text!r}")
+        raise argparse.ArgumentTypeError(
+            f"no time from {LEAST_PATIENCE:.0f} to 3600 seconds: {text!r}"
+        )
     return seconds
 
 

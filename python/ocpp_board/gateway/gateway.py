@@ -159,7 +159,11 @@ class Gateway:
     def hear_served(self, served: Served) -> None:
         """The store's last connection of a station."""
         socket = self.served.get(served.station)
-        if socket and socket.is_noted and (served.gateway, served.number) != (self.name, socket.number):
+        if (
+            socket
+            and socket.is_noted
+            and (served.gateway, served.number) != (self.name, socket.number)
+        ):
             del self.served[served.station]
             self.replace(socket)
 

@@ -94,7 +94,8 @@ def settle(
 ) -> list[Answer]:
     """Answers what is asked, in its order, once all that it changes is committed. Raises StoreError and ProgramError,
     and then nothing has changed. `pool`: processes among which texts and transactions are parted; `also`: is called
-    within the database transaction, right before its commit; `warm`: what this process stored last."""
+    within the database transaction, right before its commit; `warm`: what this process stored last.
+    """
     batch = Batch(asked, ask_program(asked, pool))
     sort_asked(batch)
     find_strangers(store, batch)
@@ -103,8 +104,9 @@ def settle(
             kept = write_batch(store, batch, pool, warm)
             if also:
                 also(store)
-        for key, one in kept.items() if warm else ():
-            warm.keep(key, one)
+        if warm is not None:
+            for key, one in kept.items():
+                warm.keep(key, one)
     return [batch.answers[place] for place in range(len(asked))]
 
 
@@ -227,7 +229,7 @@ def write_batch(
                 one.lines,
                 list_new(batch, batch.sessions[key], deeds),
             ),
-            [row.text for row in one.refusals if row.cause == CONFLICT],
+            list_conflicts(key, one),
         )
         for key, one in held.items()
     }
@@ -309,6 +311,12 @@ def find_all_rules(store: Database, sites: Iterable[str]) -> dict[str, Rules]:
         some = store.fetch_each(f"{asked} = :site", [{"site": site} for site in sorted(sites)])
         rows = [row for one in some for row in one]
     return {row.site: read_rules(row) for row in rows}
+
+
+def list_conflicts(key: Key, held: Held) -> list[str]:
+    """The lines of messages that conflicted with a transaction's events."""
+    texts = (row.text for row in held.refusals if row.cause == CONFLICT)
+    return [f"{DELIVER}{key[0]} {one_line(text)}" for text in texts]
 
 
 def name_deed(one: Deed) -> dict[str, Any]:
@@ -567,7 +575,7 @@ def compute_again(store: Database, site: str, rules: Rules) -> int:
         works = {
             key: Work(
                 *(*key, site, rules, one.lines, no_lines),
-                [row.text for row in one.refusals if row.cause == CONFLICT],
+                list_conflicts(key, one),
                 True,
             )
             for key, one in held.items()

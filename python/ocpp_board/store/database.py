@@ -294,6 +294,8 @@ class PostgresDatabase(Database):
                 url, autocommit=True, row_factory=namedtuple_row, prepare_threshold=2
             )
             self.connection.execute("set time zone 'UTC'")
+            # To compile a plan over all partitions takes far longer than to run it.
+            self.connection.execute("set jit = off")
         except psycopg.Error as fault:
             raise StoreAway(f"the store can't be reached: {' '.join(str(fault).split())}") from None
         self.url = url
@@ -377,6 +379,14 @@ def open_store(name: str, is_durable: bool = True) -> Database:
         database.close()
         raise
     return database
+
+
+def open_again(store: Database) -> Database:
+    """Another connection to the same store, for another thread or process. Raises StoreError."""
+    if isinstance(store, SqliteDatabase):
+        return SqliteDatabase(store.path)
+    assert isinstance(store, PostgresDatabase)
+    return PostgresDatabase(store.url)
 
 
 def make_tables(database: SqliteDatabase | PostgresDatabase) -> None:

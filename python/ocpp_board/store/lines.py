@@ -149,7 +149,8 @@ def hold_sessions(
     store: Database, sites: dict[Key, str], warm: "Warm | None" = None
 ) -> dict[Key, Held]:
     """Holds transactions up to the end of the database transaction, in the order of their keys, and gives what is
-    stored of them. `sites`: those of the ones that are not stored; `warm`: what this process stored last."""
+    stored of them. `sites`: those of the ones that are not stored; `warm`: what this process stored last.
+    """
     keys = sorted(sites)
     if store.kind == "postgresql" and keys:
         store.execute(
@@ -195,7 +196,10 @@ def read_lines(store: Database, keys: Sequence[Key]) -> Iterable[list[Line]]:
 
 def read_refusals(store: Database, keys: Sequence[Key]) -> Iterable[list[Row]]:
     """What was refused of each of these transactions and matters to its rows."""
-    columns, more = "cause, digest, number, text, times", "and cause in ('ConflictingEvent', 'Untaken')"
+    columns, more = (
+        "cause, digest, number, text, times",
+        "and cause in ('ConflictingEvent', 'Untaken')",
+    )
     return fetch_keyed(store, columns, "refusal", keys, more)
 
 
@@ -304,7 +308,8 @@ class Writer:
         """Writes what was collected."""
         if self.lines:
             insert_lines(self.store, self.lines)
-        write_each(self.store, "session", KEYS, ["site", *SESSION, "changed_at"], self.sessions)
+        columns = ["site", *SESSION, "changed_at"]
+        write_each(self.store, "session", KEYS, columns, self.sessions, compared=SESSION)
         unknown = sorted(key for key, (held, _, _) in self.rows.items() if held.kept is None)
         for table, columns, place in (("part", PART, 1), ("finding", FINDING, 2)):
             had = dict(zip(unknown, fetch_keyed(self.store, ", ".join(columns), table, unknown)))
@@ -317,7 +322,7 @@ class Writer:
                         getattr(row, columns[0]): tuple(getattr(row, name) for name in columns)
                         for row in had[key]
                     }
-            own = {key: one[place] for key, one in self.rows.items()}
+            own = {key: one[1] if place == 1 else one[2] for key, one in self.rows.items()}
             write_differences(self.store, table, columns, before, own)
         if self.empty:
             delete_each(self.store, "session", self.empty)
@@ -351,18 +356,24 @@ def write_each(
     keys: Sequence[str],
     columns: Sequence[str],
     rows: Sequence[dict[str, Any]],
+    compared: Sequence[str] = (),
 ) -> None:
-    """Inserts rows, or writes their other columns where they are there."""
+    """Inserts rows, or writes their other columns where they are there. `compared`: the columns of which one has to
+    differ for that."""
     if not rows:
         return
+    where = ""
+    if compared:
+        had, has = (", ".join(f"{of}.{name}" for name in compared) for of in (table, "excluded"))
+        where = f" where ({had}) is distinct from ({has})"
     if store.kind == "sqlite":
-        store.execute_each(insert_text(table, keys, columns), rows)
+        store.execute_each(insert_text(table, keys, columns) + where, rows)
         return
     names = ", ".join([*keys, *columns])
     changes = ", ".join(f"{name} = excluded.{name}" for name in columns)
     store.execute(
         f"""insert into {table} ({names}) select {names} from json_populate_recordset(null::{table}, :rows)
-        on conflict ({', '.join(keys)}) do update set {changes}""",
+        on conflict ({', '.join(keys)}) do update set {changes}{where}""",
         rows=json.dumps(rows, default=datetime.isoformat),
     )
 

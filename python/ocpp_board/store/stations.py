@@ -27,7 +27,9 @@ CONNECT = f"""
 insert into connection (station, gateway, number, since) values (:station, :gateway, :number, {NOW})
 on conflict (station) do update set gateway = excluded.gateway, number = excluded.number, since = excluded.since
 """
-CONNECTED = "select station, gateway, number from connection where since > :since and gateway <> :gateway"
+CONNECTED = (
+    "select station, gateway, number from connection where since > :since and gateway <> :gateway"
+)
 CHANGED = "select id, name from change where at > :since and what in ('station', 'password')"
 SEE = "update password set seen_at = :now where station = :station and hash = :hash and seen_at is null"
 HAS = "select 1 as one from password where station = :station and hash = :hash"
@@ -112,7 +114,9 @@ def look_for_changes(
 
 def count_passwords(store: Database, station: str) -> str:
     """How many passwords a station has, as JSON."""
-    (row,) = store.fetch("select count(*) as n from password where station = :station", station=station)
+    (row,) = store.fetch(
+        "select count(*) as n from password where station = :station", station=station
+    )
     return json.dumps({"passwords": row.n})
 
 
@@ -120,9 +124,7 @@ def require_station(store: Database, station: str) -> None:
     """Raises InputError where the plan has no such station."""
     row = store.fetch_one("select until from station where station = :station", station=station)
     if row is None or row.until is not None:
-        raise InputError(
-            f"the plan has no station {station!r}; add it by `ocpp-board plan`"
-        )
+        raise InputError(f"the plan has no station {station!r}; add it by `ocpp-board plan`")
 
 
 def set_password(
@@ -144,7 +146,13 @@ def set_password(
         )
         store.execute(
             "insert into password (station, hash, salt, cost, set_at) values (:station, :hash, :salt, :cost, :at)",
-            **{"station": station, "hash": made.hash, "salt": made.salt, "cost": made.cost, "at": now()},
+            **{
+                "station": station,
+                "hash": made.hash,
+                "salt": made.salt,
+                "cost": made.cost,
+                "at": now(),
+            },
         )
         note_change(store, author, "password", station, before, count_passwords(store, station))
 
