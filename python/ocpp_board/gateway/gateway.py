@@ -227,7 +227,7 @@ class Gateway:
         serve_figures(self.options.metrics, self)
         await self.wait_for_store()
         context = self.certificates.first
-        more = {"ssl_handshake_timeout": HANDSHAKE} if context else {}
+        more: dict[str, Any] = {"ssl_handshake_timeout": HANDSHAKE} if context else {}
         try:
             server = await serve(
                 self.serve_station,
@@ -252,7 +252,8 @@ class Gateway:
         except OSError as fault:
             place = f"{self.options.host}:{self.options.port}"
             raise UsageError(f"{place}: {fault.strerror or fault}; choose another --port") from None
-        print(f"listening {self.options.host}:{server.sockets[0].getsockname()[1]}", flush=True)
+        (port, *_) = (one.getsockname()[1] for one in server.sockets)
+        print(f"listening {self.options.host}:{port}", flush=True)
         async with asyncio.TaskGroup() as group:
             jobs = [
                 group.create_task(job())

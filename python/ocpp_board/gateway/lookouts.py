@@ -1,7 +1,7 @@
 """What a gateway reads and writes of the plan: stations with their passwords, who serves whom, and changes.
 
-The statements of a gateway run in one thread with a store of its own, one after the other. What many stations ask for at
-the same time is one statement.
+The statements of a gateway run in one thread with a store of its own, one after the other. What many stations ask for
+at the same time is one statement.
 """
 
 import asyncio
@@ -40,7 +40,9 @@ class Clerk:
         loop = asyncio.get_running_loop()
         try:
             async with asyncio.timeout(ANSWER):
-                return await asyncio.shield(loop.run_in_executor(self.thread, self.do, job, *words))
+                return await asyncio.shield(
+                    loop.run_in_executor(self.thread, lambda: self.do(job, *words))
+                )
         except TimeoutError:
             self.is_up = False
             raise StoreError(f"the store gave no answer for {ANSWER:.0f} seconds") from None
@@ -64,9 +66,12 @@ class Clerk:
 class Gatherer(Generic[Key, Found]):
     """Asks the store for what several ask for at the same moment, by one job."""
 
-    def __init__(self, clerk: Clerk, job: Callable[[Database, Sequence[Key]], dict[Key, Found]]) -> None:
+    def __init__(
+        self, clerk: Clerk, job: Callable[[Database, Sequence[Key]], dict[Key, Found]]
+    ) -> None:
         """`job` gives what it finds of these keys; what it finds nothing of is left out."""
-        self.clerk, self.job = clerk, job
+        self.clerk = clerk
+        self.job: Callable[[Database, Sequence[Key]], dict[Key, Found]] = job
         self.sought: dict[Key, asyncio.Future[Found | None]] = {}
         self.asked = asyncio.Event()
 

@@ -1,5 +1,7 @@
-"""What a station may send, where its site has quotas: open transactions, and bytes a day. What is above is refused by the
-quota's name, and is a row of `refusal` as any other refused message; what a transaction may keep is in the site's rules.
+"""What a station may send, where its site has quotas: open transactions, and bytes a day.
+
+What is above is refused by the quota's name, and is a row of `refusal` as any other refused message. What a transaction
+may keep is in the site's rules.
 """
 
 import json
@@ -51,7 +53,9 @@ def find_refused(
     refused = dict[int, str]()
     stations = {one.message.station for one in asking if sites[one.message.station] in quotas}
     for station in sorted(stations):
-        quota, own = quotas[sites[station]], [one for one in asking if one.message.station == station]
+        quota, own = quotas[sites[station]], [
+            one for one in asking if one.message.station == station
+        ]
         if quota.open:
             refused |= refuse_open(store, station, quota.open, own)
         if quota.bytes:

@@ -9,7 +9,7 @@ from typing import Any, NamedTuple
 
 from ocpp_board.errors import StoreError
 from ocpp_board.records import Line
-from ocpp_board.store.database import Database, Row, choose
+from ocpp_board.store.database import Database, Row
 
 SESSION = """lines evse events voided first_number last_number complete missing gaps up down export_up export_down state
 began ended first_at last_at first_register last_register first_export_register last_export_register stopped_reason
@@ -203,7 +203,7 @@ def read_refusals(store: Database, keys: Sequence[Key]) -> Iterable[list[Row]]:
     return fetch_keyed(store, columns, "refusal", keys, more)
 
 
-# What a process stored last --------------------------------------------------------------------------------------------
+# What a process stored last ------------------------------------------------------------------------------------------
 
 
 @dataclass(slots=True)
@@ -252,7 +252,7 @@ class Warm:
             self.drop(next(iter(self.kept)))
 
 
-# Writing ----------------------------------------------------------------------------------------------------------------
+# Writing -------------------------------------------------------------------------------------------------------------
 
 
 class Writer:

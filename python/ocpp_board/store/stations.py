@@ -68,9 +68,7 @@ def find_stations(store: Database, names: Sequence[str]) -> dict[str, list[Row]]
     return found
 
 
-def note_seen(
-    store: Database, pairs: Sequence[tuple[str, str]]
-) -> dict[tuple[str, str], bool]:
+def note_seen(store: Database, pairs: Sequence[tuple[str, str]]) -> dict[tuple[str, str], bool]:
     """Notes that stations came with the passwords of these hashes, which ends older ones. Gives those that they still
     have."""
     values = [{"station": station, "hash": own, "now": now()} for station, own in sorted(pairs)]
@@ -130,8 +128,8 @@ def require_station(store: Database, station: str) -> None:
 def set_password(
     store: Database, station: str, password: str, author: Author, at_once: bool = False
 ) -> None:
-    """Sets a station's password. What the station came with last stays good until it comes with this one; with `at_once`
-    it ends now. Raises InputError."""
+    """Sets a station's password. What the station came with last stays good until it comes with this one; with
+    `at_once` it ends now. Raises InputError."""
     if mistake := find_mistake(password):
         raise InputError(f"{station}: {mistake}")
     made = make_password(password)
