@@ -76,8 +76,8 @@ def make_reply(transaction: str, number: int) -> str:
 def make_event(
     transaction: str, number: int, of: int = 0, start: int = 0, message: str = ""
 ) -> str:
-    """A TransactionEvent: the first begins the transaction, and number `of` - 1 ends it. One a minute; each reads 100 Wh
-    more."""
+    """A TransactionEvent: the first begins the transaction, and number `of` - 1 ends it. There is one a minute, and
+    each reads 100 Wh more."""
     kind = "Started" if number == 0 else "Ended" if number == of - 1 else "Updated"
     seconds = start + 60 * number
     day, seconds = divmod(seconds, 86_400)
@@ -102,4 +102,7 @@ def make_event(
         payload["idToken"] = {"idToken": "ABCD1234", "type": "ISO14443"}
     if kind == "Ended":
         payload["transactionInfo"]["stoppedReason"] = "EVDisconnected"
-    return json.dumps([2, message or f"{transaction}-{number}", "TransactionEvent", payload], separators=(",", ":"))
+    return json.dumps(
+        [2, message or f"{transaction}-{number}", "TransactionEvent", payload],
+        separators=(",", ":"),
+    )

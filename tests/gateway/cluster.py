@@ -12,6 +12,7 @@ import time
 from collections.abc import Iterator
 from contextlib import contextmanager
 from pathlib import Path
+from typing import Self
 
 TOP = Path(__file__).resolve().parent.parent.parent
 BIN = Path("/usr/lib/postgresql/15/bin")
@@ -169,7 +170,13 @@ class Part:
         self.words = [str(word) for word in words]
         self.log = tempfile.TemporaryFile()
         self.process = subprocess.Popen(
-            [sys.executable, *os.environ.get("PROFILE", "").split(), "-m", "ocpp_board", *self.words],
+            [
+                sys.executable,
+                *os.environ.get("PROFILE", "").split(),
+                "-m",
+                "ocpp_board",
+                *self.words,
+            ],
             stdout=subprocess.PIPE,
             stderr=self.log,
             env=os.environ | {"PYTHONPATH": f"{TOP / 'python'}:{TOP}"} | environment,
@@ -210,7 +217,7 @@ class Part:
                 self.kill()
         return self.process.returncode
 
-    def __enter__(self) -> "Part":
+    def __enter__(self) -> Self:
         return self
 
     def __exit__(self, *_fault: object) -> None:

@@ -37,7 +37,13 @@ def fill_store(name: str, stations: int = 3, front: str = "CS", site: str = SITE
         store.insert_each(
             "password",
             [
-                {"station": one, "hash": made.hash, "salt": made.salt, "cost": made.cost, "set_at": at}
+                {
+                    "station": one,
+                    "hash": made.hash,
+                    "salt": made.salt,
+                    "cost": made.cost,
+                    "set_at": at,
+                }
                 for one in names
             ],
         )

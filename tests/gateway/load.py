@@ -3,9 +3,9 @@
     tests/one gateway.load --stations 1000 --events 48 --rounds 2 ws://127.0.0.1:9100/ocpp ws://127.0.0.1:9101/ocpp
 
 Station k is L-k. It sends transactions of so many events, the next message after the reply to the last one, and with
---rate when it is due. Where its connection ends it connects to the next gateway and sends again. A message's wait is from
-when it was first sent to its reply, whatever happened in between. Frames are written by hand, so that the generator
-costs little beside what it measures. The status is 1 where a reply was not that of an event that is taken.
+--rate when it is due. Where its connection ends it connects to the next gateway and sends again. A message's wait is
+from when it was first sent to its reply, whatever happened in between. Frames are written by hand, so that the
+generator costs little beside what it measures. The status is 1 where a reply was not that of an event that is taken.
 """
 
 import argparse
@@ -156,7 +156,8 @@ class Station(asyncio.Protocol):
             self.is_in = False
             try:
                 async with self.load.places:
-                    await loop.create_connection(lambda: self, url.hostname, url.port)
+                    host, port = url.hostname or "", url.port or 80
+                    await loop.create_connection(lambda: self, host, port)
                     assert self.transport
                     login = make_login(self.name, plan.password)
                     head = HANDSHAKE.format(path=url.path, station=self.name, login=login)

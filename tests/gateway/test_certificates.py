@@ -7,6 +7,7 @@ import subprocess
 from collections.abc import Callable
 from datetime import datetime, timedelta
 from pathlib import Path
+from typing import Any
 
 import pytest
 from cryptography import x509
@@ -23,7 +24,14 @@ from ocpp_board.gateway.certificates import (
     read_revoked,
     read_subject,
 )
-from tests.gateway.client import ask, connect_station, find_status, make_event, make_reply, wait_for_close
+from tests.gateway.client import (
+    ask,
+    connect_station,
+    find_status,
+    make_event,
+    make_reply,
+    wait_for_close,
+)
 from tests.gateway.cluster import GatewayPart
 
 Make = Callable[..., str]
@@ -55,13 +63,13 @@ class Authority:
             .add_extension(x509.BasicConstraints(is_authority, None), True)
         )
         if not is_authority:
-            names = [x509.DNSName("localhost")]
+            names: list[x509.GeneralName] = [x509.DNSName("localhost")]
             builder = builder.add_extension(x509.SubjectAlternativeName(names), False)
         return builder.sign(self.key, hashes.SHA256())
 
     def make(self, name: str, *more: str) -> tuple[str, str, int]:
         """The files of a certificate and its key, and its number."""
-        key = ec.generate_private_key(ec.SECP256R1())
+        key: Any = ec.generate_private_key(ec.SECP256R1())
         names = [x509.NameAttribute(NameOID.COMMON_NAME, one) for one in (name, *more)]
         made = self.sign(x509.Name(names), key, False)
         front = self.folder / f"{name}-{made.serial_number % 10_000}"
@@ -148,8 +156,8 @@ def test_versions_of_tls(
 def test_a_certificate_in_place_of_a_password(
     make_fleet: Make, authority: Authority, tmp_path: Path
 ) -> None:
-    """A station comes with the certificate of its name; a revoked one, another's and none do not come in. A list that is
-    read again ends connections that are open."""
+    """A station comes with the certificate of its name; a revoked one, another's and none do not come in. A list that
+    is read again ends connections that are open."""
     server, first, second, other = (
         authority.make(name) for name in ("localhost", "CS-0", "CS-0", "CS-1")
     )
@@ -171,9 +179,7 @@ def test_a_certificate_in_place_of_a_password(
         for own in (first, stranger, None):
             assert await try_one(url, own) == 0
         assert await try_one(url, authority.make("nobody"), "nobody") == 404
-        station = await connect_station(
-            url, "CS-0", None, context=make_client(authority, second)
-        )
+        station = await connect_station(url, "CS-0", None, context=make_client(authority, second))
         authority.revoked.append(second[2])
         authority.write_list(revoked)
         gateway.process.send_signal(signal.SIGHUP)
@@ -185,7 +191,9 @@ def test_a_certificate_in_place_of_a_password(
         asyncio.run(play(gateway))
 
 
-def test_a_certificate_is_read_again(make_fleet: Make, authority: Authority, tmp_path: Path) -> None:
+def test_a_certificate_is_read_again(
+    make_fleet: Make, authority: Authority, tmp_path: Path
+) -> None:
     """After SIGHUP new connections begin with the new certificate; a broken file changes nothing."""
     certificate, key, _ = authority.make("localhost")
     later = Authority(tmp_path, "a later authority")

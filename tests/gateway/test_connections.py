@@ -55,7 +55,7 @@ def test_texts_that_are_no_events_get_the_answers_of_the_program(make_store: Mak
         '[2,"b","TransactionEvent",{}]': '[4,"b",',
         '[2,"c\x00d","Heartbeat",{}]': "[4,",
         '[2,"e","Heartbeat",{"a":"\U0001f600"}]': '[3,"e",',
-        "[2,\n\"f\",\n\"Heartbeat\",{}]": '[3,"f",',
+        '[2,\n"f",\n"Heartbeat",{}]': '[3,"f",',
         '[2,"g","DataTransfer",{"vendorId":"' + "x" * 300_000 + '"}]': "[4,",
     }
 
@@ -197,7 +197,9 @@ def test_a_password_changes_while_the_station_is_connected(make_store: Make) -> 
     with GatewayPart(name) as gateway:
         asyncio.run(play(gateway.url))
     with open_store(name) as store:
-        changes = store.fetch("select who, why, what, before_text, after_text from change order by id")
+        changes = store.fetch(
+            "select who, why, what, before_text, after_text from change order by id"
+        )
         assert [tuple(row) for row in changes] == [
             ("jo", "it is due", "password", '{"passwords": 1}', '{"passwords": 2}'),
             ("jo", "it is known", "password", '{"passwords": 1}', '{"passwords": 1}'),
@@ -261,10 +263,10 @@ def test_a_station_above_its_pace_waits_and_nobody_else(make_store: Make) -> Non
     async def play(url: str) -> None:
         hostile, other = await connect_station(url, "CS-0"), await connect_station(url, "CS-1")
         for _ in range(1_200):
-            await hostile.send("[3,\"x\",{}]")
+            await hostile.send('[3,"x",{}]')
         began = time.monotonic()
         for _ in range(40):
-            await hostile.send("[3,\"x\",{}]")
+            await hostile.send('[3,"x",{}]')
         assert (await ask(other, HEARTBEAT)).startswith('[3,"h"')
         others = time.monotonic() - began
         assert (await ask(hostile, HEARTBEAT)).startswith('[3,"h"')

@@ -1,5 +1,5 @@
-"""Parts that fail while stations send: the database killed, cut off, full; gateways killed. No event is lost, and none is
-answered that is not stored. Each scene ends with `verify`, and reports its longest wait."""
+"""Parts that fail while stations send: the database killed, cut off, full; gateways killed. No event is lost, and none
+is answered that is not stored. Each scene ends with `verify`, and reports its longest wait."""
 
 import asyncio
 import os

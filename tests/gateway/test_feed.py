@@ -51,7 +51,7 @@ def check_lines(name: str, count: int) -> None:
     assert count_lines(name) == count
 
 
-# What is published ------------------------------------------------------------------------------------------------------
+# What is published ---------------------------------------------------------------------------------------------------
 
 
 def test_frames_and_objects() -> None:
@@ -90,7 +90,7 @@ def test_addresses_that_are_wrong(url: str) -> None:
         read_broker(url, {"amqp": 5672, "amqps": 5671})
 
 
-# MQTT -------------------------------------------------------------------------------------------------------------------
+# MQTT ----------------------------------------------------------------------------------------------------------------
 
 
 class Mosquitto:
@@ -187,13 +187,15 @@ def test_mqtt_kills_and_pauses(mosquitto: Mosquitto, make_store: Make) -> None:
         check_lines(name, 120)
         mosquitto.stop()
         mosquitto.start()
-        mosquitto.publish(make_texts(30, "c") + [("CS-0", "no frame"), ("stranger", make_event("d", 0))])
+        mosquitto.publish(
+            make_texts(30, "c") + [("CS-0", "no frame"), ("stranger", make_event("d", 0))]
+        )
         check_lines(name, 150)
         with open_store(name) as store:
             wait_for(lambda: len(store.fetch("select station from stray")) == 1)
 
 
-# RabbitMQ ---------------------------------------------------------------------------------------------------------------
+# RabbitMQ ------------------------------------------------------------------------------------------------------------
 
 
 class Rabbit:

@@ -127,7 +127,7 @@ def ask_everything(store: Database) -> None:
 def test_statements_look_at_the_partitions_of_their_stations(
     make_fleet: Make, monkeypatch: pytest.MonkeyPatch
 ) -> None:
-    """The plan of each statement that the engine ran has no partition but those of the stations that it was asked of."""
+    """The plan of each statement that the engine ran has no partition but those of the stations it was asked of."""
     stations = ["CS-0", "CS-1", "unknown"]
     said: list[Said] = []
     with open_store(make_fleet()) as store:

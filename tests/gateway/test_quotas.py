@@ -43,7 +43,9 @@ def test_open_transactions(make_store: Make) -> None:
     with open_store(name) as store:
         write_quota(store, "depot", AUTHOR, 2, None)
 
-        def send(transaction: str, number: int, station: str = "CS-0") -> tuple[str, str, str | None]:
+        def send(
+            transaction: str, number: int, station: str = "CS-0"
+        ) -> tuple[str, str, str | None]:
             text = make_event(transaction, number, 2)
             (one,) = settle(store, [Message(station, text, None, "a test")])
             return one.outcome, one.name, one.reply

@@ -86,7 +86,15 @@ def test_an_operator_does_its_work(store_name: str) -> None:
 def test_a_reader_reads(store_name: str) -> None:
     """Boards, lines and findings."""
     with open_store(name_as(store_name, "reader")) as store:
-        for view in ("board_site", "board_station", "lacking", "refused", "line", "session", "change"):
+        for view in (
+            "board_site",
+            "board_station",
+            "lacking",
+            "refused",
+            "line",
+            "session",
+            "change",
+        ):
             store.fetch(f"select * from {view}")
 
 

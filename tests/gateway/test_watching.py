@@ -125,7 +125,11 @@ def test_each_alert_fires() -> None:
         )
         assert done.returncode == 0, done.stdout + done.stderr
     done = subprocess.run(
-        [str(PROMTOOL), "check", "config", "prometheus.yml"], cwd=FOLDER, check=False
+        [str(PROMTOOL), "check", "config", "prometheus.yml"],
+        cwd=FOLDER,
+        capture_output=True,
+        text=True,
+        check=False,
     )
     assert done.returncode == 0
 

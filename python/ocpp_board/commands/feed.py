@@ -12,8 +12,8 @@ the message's header `stationId`, or else what follows the last point of the rou
 last slash of the topic. Messages of stations that the plan does not have are kept as strays, and are taken once it has
 them.
 
-Once a minute and at the end the feed logs what became of the messages. It logs once that the store or the broker is away,
-and tries again and again.
+Once a minute and at the end the feed logs what became of the messages. It logs once that the store or the broker is
+away, and tries again and again.
 """
 
 import argparse

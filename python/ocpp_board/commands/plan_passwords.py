@@ -21,13 +21,13 @@ from ocpp_board.store.stations import set_password, write_quota
 
 ABOUT = f"""\
 Sets the password by which gateways let a station in (HTTP Basic, OCPP 2.0.1 Part 2, BasicAuthPassword): {SHORTEST} to
-{LONGEST} characters. At a terminal it is asked for twice and not shown; else it is one line of standard input. The store
-keeps a salted hash of it. What the station came with last stays good until it comes with the new one, and its connection
-goes on."""
+{LONGEST} characters. At a terminal it is asked for twice and not shown; else it is one line of standard input. The
+store keeps a salted hash of it. What the station came with last stays good until it comes with the new one, and its
+connection goes on."""
 QUOTA = """\
 Sets what each station of a site may send: what is above is refused by the quota's name, TooManyOpen or TooManyBytes, is
-listed among the refused messages, and is counted by gateways. A site has none at first. Quotas are for hostile or broken
-stations: an event that is refused is lost unless the station sends it again later."""
+listed among the refused messages, and is counted by gateways. A site has none at first. Quotas are for hostile or
+broken stations: an event that is refused is lost unless the station sends it again later."""
 # Characters of a password that is made here.
 MADE, LETTERS = 24, string.ascii_letters + string.digits
 

@@ -64,8 +64,8 @@ class Door:
         self.waiting = Counter[str]()
         # How many answers are delayed at the moment, and how many tries failed.
         self.slowed = self.wrong = 0
-        # What was right last, by a key of this process, with the hash of the store that it matched: a station that comes
-        # again costs no hash.
+        # What was right last, by a key of this process, with the hash of the store that it matched: a station that
+        # comes again costs no hash.
         self.key = secrets.token_bytes(32)
         self.right: dict[str, tuple[str, bytes]] = {}
 

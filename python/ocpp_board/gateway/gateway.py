@@ -18,7 +18,7 @@ from ocpp_board.errors import StoreError, UsageError
 from ocpp_board.gateway.certificates import Certificates, Files
 from ocpp_board.gateway.door import Door, Known
 from ocpp_board.gateway.lanes import Lanes
-from ocpp_board.gateway.lookouts import Clerk, Finder, Lookout, Served
+from ocpp_board.gateway.lookouts import Clerk, Gatherer, Lookout, Served
 from ocpp_board.gateway.metrics import Repeated, serve_figures
 from ocpp_board.passwords import Password
 from ocpp_board.gateway.station_socket import (
@@ -76,8 +76,8 @@ class Gateway:
         self.name = f"{os.uname().nodename}-{os.getpid()}-{secrets.token_hex(4)}"
         self.lanes = Lanes([options.store], options.lanes, options.patience)
         self.clerk = Clerk(options.store)
-        self.finder = Finder(self.clerk)
-        self.find = self.finder.find
+        self.finder = Gatherer(self.clerk, stations.find_stations)
+        self.seen = Gatherer(self.clerk, stations.note_seen)
         self.door = Door(self.find, self.note_seen)
         self.certificates = Certificates(files, self.end_revoked)
         self.lookout = Lookout(self.clerk, self.name, self.hear_served, self.hear_changed)
@@ -140,9 +140,15 @@ class Gateway:
 
     # --- what the store has --------------------------------------------------------------------------------------
 
+    async def find(self, station: str) -> Known:
+        """What the store has of a station. Raises StoreError."""
+        rows = await self.finder.ask(station) if station else None
+        return Known(rows is not None, tuple(Password(*row) for row in rows or ()))
+
     async def note_seen(self, station: str, password: Password) -> bool:
-        """Notes that a station came with a password, which ends an older one. Whether it has it still."""
-        return await self.clerk.run(stations.note_seen, station, password.hash)
+        """Notes that a station came with a password, which ends an older one. Whether it has it still. Raises
+        StoreError."""
+        return await self.seen.ask((station, password.hash)) is not None
 
     def note_stored(self, station: str, number: int) -> None:
         """The store has this connection: what it says of another one from here on is later."""
@@ -221,7 +227,7 @@ class Gateway:
         serve_figures(self.options.metrics, self)
         await self.wait_for_store()
         context = self.certificates.first
-        more = {"ssl_handshake_timeout": HANDSHAKE} if context else {}
+        more: dict[str, Any] = {"ssl_handshake_timeout": HANDSHAKE} if context else {}
         try:
             server = await serve(
                 self.serve_station,
@@ -246,13 +252,15 @@ class Gateway:
         except OSError as fault:
             place = f"{self.options.host}:{self.options.port}"
             raise UsageError(f"{place}: {fault.strerror or fault}; choose another --port") from None
-        print(f"listening {self.options.host}:{server.sockets[0].getsockname()[1]}", flush=True)
+        (port, *_) = (one.getsockname()[1] for one in server.sockets)
+        print(f"listening {self.options.host}:{port}", flush=True)
         async with asyncio.TaskGroup() as group:
             jobs = [
                 group.create_task(job())
                 for job in (
                     self.lanes.run,
                     self.finder.run,
+                    self.seen.run,
                     self.lookout.run,
                     self.tick,
                     self.read_figures,

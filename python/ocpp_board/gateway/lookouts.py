@@ -1,18 +1,16 @@
 """What a gateway reads and writes of the plan: stations with their passwords, who serves whom, and changes.
 
-The statements of a gateway run in one thread with a store of its own, one after the other. What many stations ask for at
-the same time is one statement.
+The statements of a gateway run in one thread with a store of its own, one after the other. What many stations ask for
+at the same time is one statement.
 """
 
 import asyncio
 import logging
 from collections.abc import Callable, Sequence
 from concurrent.futures import ThreadPoolExecutor
-from typing import Any, NamedTuple, TypeVar
+from typing import Any, Generic, NamedTuple, TypeVar
 
 from ocpp_board.errors import StoreError
-from ocpp_board.gateway.door import Known
-from ocpp_board.passwords import Password
 from ocpp_board.store import stations
 from ocpp_board.store.database import Database, open_store
 
@@ -24,6 +22,8 @@ GATHERED, LOOKS = 0.02, 0.4
 ANSWER = 10.0
 
 Kind = TypeVar("Kind")
+Key = TypeVar("Key", str, tuple[str, str])
+Found = TypeVar("Found")
 
 
 class Clerk:
@@ -40,7 +40,9 @@ class Clerk:
         loop = asyncio.get_running_loop()
         try:
             async with asyncio.timeout(ANSWER):
-                return await asyncio.shield(loop.run_in_executor(self.thread, self.do, job, *words))
+                return await asyncio.shield(
+                    loop.run_in_executor(self.thread, lambda: self.do(job, *words))
+                )
         except TimeoutError:
             self.is_up = False
             raise StoreError(f"the store gave no answer for {ANSWER:.0f} seconds") from None
@@ -61,41 +63,41 @@ class Clerk:
         return found
 
 
-class Finder:
-    """Looks for stations that came, those of the same moment together."""
+class Gatherer(Generic[Key, Found]):
+    """Asks the store for what several ask for at the same moment, by one job."""
 
-    def __init__(self, clerk: Clerk) -> None:
+    def __init__(
+        self, clerk: Clerk, job: Callable[[Database, Sequence[Key]], dict[Key, Found]]
+    ) -> None:
+        """`job` gives what it finds of these keys; what it finds nothing of is left out."""
         self.clerk = clerk
-        self.sought: dict[str, asyncio.Future[Known]] = {}
+        self.job: Callable[[Database, Sequence[Key]], dict[Key, Found]] = job
+        self.sought: dict[Key, asyncio.Future[Found | None]] = {}
         self.asked = asyncio.Event()
 
-    async def find(self, station: str) -> Known:
-        """What the store has of a station. Raises StoreError."""
-        if not station:
-            return Known(False)
-        if station not in self.sought:
-            self.sought[station] = asyncio.get_running_loop().create_future()
+    async def ask(self, key: Key) -> Found | None:
+        """What the store has of this. Raises StoreError."""
+        if key not in self.sought:
+            self.sought[key] = asyncio.get_running_loop().create_future()
             self.asked.set()
-        return await asyncio.shield(self.sought[station])
+        return await asyncio.shield(self.sought[key])
 
     async def run(self) -> None:
-        """Looks for who came since the last look."""
+        """Asks for what was asked since the last time."""
         while True:
             await self.asked.wait()
             await asyncio.sleep(GATHERED)
             self.asked.clear()
             sought, self.sought = self.sought, {}
             try:
-                found = await self.clerk.run(stations.find_stations, sorted(sought))
+                found = await self.clerk.run(self.job, sorted(sought))
             except StoreError as fault:
                 for future in sought.values():
                     future.set_exception(StoreError(str(fault)))
                     future.exception()  # Whoever asked may be gone.
                 continue
-            for station, future in sought.items():
-                rows = found.get(station)
-                passwords = tuple(Password(*row) for row in rows or ())
-                future.set_result(Known(rows is not None, passwords))
+            for key, future in sought.items():
+                future.set_result(found.get(key))
 
 
 class Served(NamedTuple):

@@ -10,7 +10,7 @@ from urllib.parse import unquote, urlsplit
 
 from websockets.datastructures import Headers
 from websockets.exceptions import ConnectionClosed
-from websockets.frames import Frame
+from websockets.legacy.framing import Frame
 from websockets.legacy.server import HTTPResponse, WebSocketServerProtocol
 
 from ocpp_board.errors import StoreError

@@ -1,5 +1,7 @@
-"""What a station may send, where its site has quotas: open transactions, and bytes a day. What is above is refused by the
-quota's name, and is a row of `refusal` as any other refused message; what a transaction may keep is in the site's rules.
+"""What a station may send, where its site has quotas: open transactions, and bytes a day.
+
+What is above is refused by the quota's name, and is a row of `refusal` as any other refused message. What a transaction
+may keep is in the site's rules.
 """
 
 import json

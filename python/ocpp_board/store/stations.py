@@ -68,14 +68,17 @@ def find_stations(store: Database, names: Sequence[str]) -> dict[str, list[Row]]
     return found
 
 
-def note_seen(store: Database, station: str, own: str) -> bool:
-    """Notes that a station came with the password of this hash, which ends older ones. Whether it still has it."""
+def note_seen(store: Database, pairs: Sequence[tuple[str, str]]) -> dict[tuple[str, str], bool]:
+    """Notes that stations came with the passwords of these hashes, which ends older ones. Gives those that they still
+    have."""
+    values = [{"station": station, "hash": own, "now": now()} for station, own in sorted(pairs)]
     with store.transaction():
-        if store.fetch_one(HAS, station=station, hash=own) is None:
-            return False
-        store.execute(SEE, station=station, hash=own, now=now())
-        store.execute(END_OLDER, station=station, hash=own)
-    return True
+        had = store.fetch_each(HAS, values)
+        found = [one for one, rows in zip(values, list(had)) if rows]
+        if found:
+            store.execute_each(SEE, found)
+            store.execute_each(END_OLDER, found)
+    return {(str(one["station"]), str(one["hash"])): True for one in found}
 
 
 def write_connections(store: Database, gateway: str, let_in: Sequence[tuple[str, int]]) -> None:
@@ -125,8 +128,8 @@ def require_station(store: Database, station: str) -> None:
 def set_password(
     store: Database, station: str, password: str, author: Author, at_once: bool = False
 ) -> None:
-    """Sets a station's password. What the station came with last stays good until it comes with this one; with `at_once`
-    it ends now. Raises InputError."""
+    """Sets a station's password. What the station came with last stays good until it comes with this one; with
+    `at_once` it ends now. Raises InputError."""
     if mistake := find_mistake(password):
         raise InputError(f"{station}: {mistake}")
     made = make_password(password)
