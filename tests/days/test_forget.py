@@ -193,7 +193,7 @@ def test_what_is_not_settled_stays(store: Database, tmp_path: Path) -> None:
     close_day(store, SITE, None, "jo", read_noon("2026-12-01"))
     operate(store, "void", "A", "t1", 2, FIRST)
     assert [one.file for one in move_old(store, before, tmp_path)] == [None]
-    assert list(tmp_path.iterdir()) == []
+    assert list(tmp_path.glob("*.zip*")) == []
     with pytest.raises(UsageError, match="is no folder"):
         list(move_old(store, before, tmp_path / "none"))
 

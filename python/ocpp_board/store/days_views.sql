@@ -6,7 +6,7 @@ create view settled_period as
 select p.site, p.station, p.starts, cast(sum(p.up) as bigint) as up, cast(sum(p.down) as bigint) as down,
     cast(sum(p.export_up) as bigint) as export_up, cast(sum(p.export_down) as bigint) as export_down,
     cast(sum(p.up - p.down - p.export_up + p.export_down) as bigint) as net,
-    case when sum(p.estimated) = 0 then 'yes' else 'no' end as measured,
+    sum(p.estimated) = 0 as measured,
     count(distinct case when p.starts < o.until then p.closing end) as corrections, max(p.closing) as closing
 from closed_part p left join closing o on o.site = p.site and o.closing = p.closing - 1
 group by p.site, p.station, p.starts
@@ -89,12 +89,12 @@ left join release r on r.station = h.station and r.transaction_id = h.transactio
         where l.station = h.station and l.transaction_id = h.transaction_id and l.kind = h.kind);
 
 -- A session as a bill has it: its energy by the ledger, the adjustments and their sum, its state, how many findings and
--- how many holds it has. `measured`: 'no' where it has no two moments with a reading.
+-- how many holds it has. `measured`: whether two moments have a reading.
 create view bill as
 select s.site, s.station, s.transaction_id, s.sent_id, s.evse, s.began, s.ended,
     coalesce(s.began, s.first_at) as at, s.complete, s.missing, a.imported, a.exported, a.adjusted_import,
     a.adjusted_export, a.import_sum, a.export_sum, a.adjustments, t.state, t.settled,
-    case when s.reading_moments < 2 then 'no' else 'yes' end as measured,
+    s.reading_moments > 1 as measured,
     coalesce(f.times, 0) as findings, coalesce(h.times, 0) as holds
 from session s
 join adjusted_session a on a.station = s.station and a.transaction_id = s.transaction_id
