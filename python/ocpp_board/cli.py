@@ -73,6 +73,8 @@ PACKAGES = {
     "asyncpg": "python3-asyncpg",
     "psycopg": "python3-psycopg",
     "websockets": "python3-websockets",
+    "cryptography": "python3-cryptography",
+    "prometheus_client": "python3-prometheus-client",
     "starlette": "python3-starlette",
     "uvicorn": "python3-uvicorn",
     "jinja2": "python3-jinja2",

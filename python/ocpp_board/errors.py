@@ -21,5 +21,9 @@ class StoreError(OcppBoardError):
     """The store can't be used, or holds what it can't hold."""
 
 
+class StoreAway(StoreError):
+    """The store is away, busy or full: the same may be asked again."""
+
+
 class ProgramError(OcppBoardError):
     """The proved program can't be run, or ended by a fault."""

@@ -2,6 +2,7 @@
 
 from dataclasses import dataclass
 from datetime import datetime
+from typing import NamedTuple
 
 # The deeds of operators.
 DEEDS = ("void", "restore", "erase")
@@ -84,7 +85,8 @@ class Limits:
 @dataclass(frozen=True, slots=True)
 class Rules:
     """A site's rules: the length of its periods in seconds, the order of readings, the rule of settling, what a
-    transaction may keep, the zone of its days, and the greatest power of an EVSE that can be, in kW."""
+    transaction may keep, the zone of its days, and the greatest power of an EVSE that can be, in kW.
+    """
 
     period: int = 900
     order: str = "moment"
@@ -94,8 +96,7 @@ class Rules:
     most_kw: int = 400
 
 
-@dataclass(frozen=True, slots=True)
-class Line:
+class Line(NamedTuple):
     """A line that changed a transaction. `text`: `deliver STATION MESSAGE`, or `void STATION TRANSACTION NUMBER` and
     so on; `number`: its place among the lines of its transaction, from 1."""
 

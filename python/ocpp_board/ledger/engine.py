@@ -36,7 +36,7 @@ from ocpp_board.messages.times import SECOND
 from ocpp_board.records import Answer, Asked, Deed, Line, Message, Rules, Untaken
 from ocpp_board.store import lines as store_lines
 from ocpp_board.store.database import Database, Row, choose
-from ocpp_board.store.lines import Held, Key
+from ocpp_board.store.lines import Held, Kept, Key, Warm, Writer
 from ocpp_board.store.plan import RULES_COLUMNS, Author, lock_sites, read_rules, write_site
 
 # An origin that is a place in a file, such as `csms.log:17`.
@@ -68,7 +68,7 @@ class Batch:
     sessions: dict[Key, list[int]] = field(default_factory=dict)
     refusals: list[tuple[Asked, Refusal, str]] = field(default_factory=list)
     strays: list[tuple[Message, Wish]] = field(default_factory=list)
-    # Messages of no transaction, by their places, and those that may have readings.
+    # Messages of no transaction, by their places, and those of them that may have readings.
     replied: dict[int, Message] = field(default_factory=dict)
     others: list[Message] = field(default_factory=list)
     # Messages that were mended, each with what it asks for.
@@ -88,18 +88,23 @@ def settle(
     pool: Pool | None = None,
     *,
     also: Callable[[Database], None] | None = None,
+    warm: Warm | None = None,
 ) -> list[Answer]:
     """Answers what is asked, in its order, once all that it changes is committed. Raises StoreError and ProgramError,
     and then nothing has changed. `pool`: processes among which texts and transactions are parted; `also`: is called
-    within the database transaction, right before its commit."""
+    within the database transaction, right before its commit; `warm`: what this process stored last.
+    """
     batch = Batch(asked, ask_program(asked, pool))
     sort_asked(batch)
     find_strangers(store, batch)
     if batch.sessions or batch.refusals or batch.others or batch.mended or also:
         with store.transaction():
-            write_batch(store, batch, pool)
+            kept = write_batch(store, batch, pool, warm)
             if also:
                 also(store)
+        if warm is not None:
+            for key, one in kept.items():
+                warm.keep(key, one)
     return [batch.answers[place] for place in range(len(asked))]
 
 
@@ -159,6 +164,7 @@ def sort_message(batch: Batch, place: int, one: Message, wish: Wish) -> None:
     if wish.outcome == "event":
         batch.sessions.setdefault((one.station, wish.text), []).append(place)
         return
+    batch.replied[place] = one
     if wish.outcome == "silent":
         batch.answers[place] = Answer("silent")
         return
@@ -167,8 +173,6 @@ def sort_message(batch: Batch, place: int, one: Message, wish: Wish) -> None:
         batch.answers[place] = Answer("reply", "", wish.text)
         if '"MeterValues"' in one.text:
             batch.others.append(one)
-        else:
-            batch.replied[place] = one
         return
     reply = None if wish.outcome == "fault" else wish.text
     if is_left_out(one.text, cause):
@@ -181,23 +185,34 @@ def sort_message(batch: Batch, place: int, one: Message, wish: Wish) -> None:
 
 def find_strangers(store: Database, batch: Batch) -> None:
     """Notes messages of no transaction that are of stations that no site has."""
-    stations = sorted({one.station for one in batch.replied.values()})
-    sites = store_lines.find_sites(store, stations)
+    stations = {one.station for one in batch.replied.values()}
+    strangers = stations - store_lines.find_sites(store, sorted(stations)).keys()
+    if not strangers:
+        return
+    batch.refusals = [
+        one
+        for one in batch.refusals
+        if isinstance(one[0], Untaken) or one[0].station not in strangers
+    ]
+    kept = {id(one) for one in batch.others}
     for place, one in batch.replied.items():
-        if one.station not in sites:
-            batch.refusals.append((one, describe_stranger(one), ""))
+        if one.station in strangers:
             batch.answers[place] = Answer("stray", UNKNOWN_STATION, batch.answers[place].reply)
+            if id(one) not in kept:
+                batch.refusals.append((one, describe_stranger(one), ""))
 
 
 # Writing -------------------------------------------------------------------------------------------------------------
 
 
-def write_batch(store: Database, batch: Batch, pool: Pool | None) -> None:
+def write_batch(
+    store: Database, batch: Batch, pool: Pool | None, warm: Warm | None
+) -> dict[Key, Kept]:
     """Writes what a batch changes, within a database transaction, and answers the rest of it."""
     sites = hold_sites(store, batch)
     leave_strays(batch, sites)
     held = store_lines.hold_sessions(
-        store, {key: sites[key[0]] for key in batch.sessions if key[0] in sites}
+        store, {key: sites[key[0]] for key in batch.sessions if key[0] in sites}, warm
     )
     deeds = find_done(store, batch)
     rules = find_all_rules(store, {one.site for one in held.values()})
@@ -210,16 +225,19 @@ def write_batch(store: Database, batch: Batch, pool: Pool | None) -> None:
                 one.lines,
                 list_new(batch, batch.sessions[key], deeds),
             ),
-            [row.text for row in one.refusals if row.cause == CONFLICT],
+            list_conflicts(key, one),
         )
         for key, one in held.items()
     }
+    writer = Writer(store, warm is not None)
     for key, work, done in work_on(works, pool):
-        take_answers(store, batch, key, done, held[key], deeds)
+        take_answers(writer, batch, key, done, held[key], deeds)
+    writer.write()
     write_refusals(store, batch)
     write_strays(store, batch)
     write_mended(store, batch)
     write_levels(store, batch, sites)
+    return writer.kept
 
 
 def hold_sites(store: Database, batch: Batch) -> dict[str, str]:
@@ -252,9 +270,19 @@ def leave_strays(batch: Batch, sites: dict[str, str]) -> None:
 
 def find_all_rules(store: Database, sites: Iterable[str]) -> dict[str, Rules]:
     """The rules of sites."""
-    asked = f"select site, {RULES_COLUMNS} from site where site = :site"
-    rows = store.fetch_each(asked, [{"site": site} for site in sorted(sites)])
-    return {row.site: read_rules(row) for some in rows for row in some}
+    asked = f"select site, {RULES_COLUMNS} from site where site"
+    if store.kind == "postgresql":
+        rows = store.fetch(f"{asked} = any(:sites)", sites=sorted(sites))
+    else:
+        some = store.fetch_each(f"{asked} = :site", [{"site": site} for site in sorted(sites)])
+        rows = [row for one in some for row in one]
+    return {row.site: read_rules(row) for row in rows}
+
+
+def list_conflicts(key: Key, held: Held) -> list[str]:
+    """The lines of messages that conflicted with a transaction's events."""
+    texts = (row.text for row in held.refusals if row.cause == CONFLICT)
+    return [f"{DELIVER}{key[0]} {one_line(text)}" for text in texts]
 
 
 def name_deed(one: Deed) -> dict[str, Any]:
@@ -333,9 +361,10 @@ def work_piece(works: list[Work]) -> list[Done]:
 
 
 def take_answers(
-    store: Database, batch: Batch, key: Key, done: Done, held: Held, deeds: dict[int, Answer]
+    writer: Writer, batch: Batch, key: Key, done: Done, held: Held, deeds: dict[int, Answer]
 ) -> None:
-    """Notes the answers to a transaction's lines, and writes its lines and rows."""
+    """Notes the answers to a transaction's lines, and has its lines and rows written."""
+    store = writer.store
     answers, taken = iter(done.answers), set[int]()
     for place in batch.sessions[key]:
         one = batch.asked[place]
@@ -354,7 +383,7 @@ def take_answers(
             elif answer.outcome in ("refused", "fault"):
                 refusal = describe_message(one.text, answer.name, one.received)
                 batch.refusals.append((one, refusal, key[1]))
-    write_rows(store, key, held, done)
+    write_rows(writer, key, held, done)
     untaken = [row for row in held.refusals if row.cause == UNTAKEN and row.number in taken]
     if untaken:
         store.execute_each(
@@ -363,44 +392,19 @@ def take_answers(
         )
 
 
-def write_rows(store: Database, key: Key, held: Held, done: Done) -> None:
-    """Writes the accepted lines of a transaction and its rows."""
-    if done.accepted:
-        store.execute_each(
-            store_lines.ADD_LINE,
-            [
-                {
-                    "station": key[0],
-                    "transaction": key[1],
-                    "number": line.number,
-                    "received": line.received,
-                    "line": line.text,
-                    "who": line.who,
-                    "origin": line.origin,
-                    "why": line.why,
-                }
-                for line in done.accepted
-            ],
-        )
+def write_rows(writer: Writer, key: Key, held: Held, done: Done) -> None:
+    """Has the accepted lines of a transaction and its rows written."""
     if done.rows is None:
-        if not held.lines and store.kind == "postgresql":
-            store.execute(
-                f"delete from session where {store_lines.OF_SESSION} and lines = 0",
-                station=key[0],
-                transaction=key[1],
-            )
+        if not held.lines:
+            writer.drop_empty(key)
         return
-    front = {"station": key[0], "transaction_id": key[1]}
-    now = datetime.now(timezone.utc)
-    row = front | {"site": held.site, "changed_at": now} | done.rows.session._asdict()
-    store.execute(store_lines.WRITE_SESSION, **row)
     parts = [one._asdict() for one in done.rows.parts]
     findings = [
         {"kind": one.kind.label, "times": one.times, "first_at": one.first, "detail": one.detail}
         for one in done.rows.findings
     ]
-    store_lines.write_differences(store, "part", store_lines.PART, {key: parts})
-    store_lines.write_differences(store, "finding", store_lines.FINDING, {key: findings})
+    session = done.rows.session._asdict()
+    writer.add(key, held, done.accepted, session, parts, findings)
 
 
 def write_deed(store: Database, one: Deed, answer: LineAnswer) -> None:
@@ -538,13 +542,15 @@ def compute_again(store: Database, site: str, rules: Rules) -> int:
         works = {
             key: Work(
                 *(*key, site, rules, one.lines, no_lines),
-                [row.text for row in one.refusals if row.cause == CONFLICT],
+                list_conflicts(key, one),
                 True,
             )
             for key, one in held.items()
         }
+        writer = Writer(store)
         for key, _, done in work_on(works, None):
-            write_rows(store, key, held[key], done)
+            write_rows(writer, key, held[key], done)
+        writer.write()
         count, after = count + len(keys), keys[-1]
 
 

@@ -14,15 +14,21 @@ from functools import lru_cache, wraps
 from pathlib import Path
 from typing import Any, ParamSpec, TypeVar
 
-from ocpp_board.errors import StoreError, UsageError
+from ocpp_board.errors import StoreAway, StoreError, UsageError
 
 try:
     import psycopg
     from psycopg.rows import namedtuple_row
 
     FAULTS: tuple[type[Exception], ...] = (sqlite3.Error, psycopg.Error)
+    # Those that pass: the database is away, busy or full, or two writers can't both have their way.
+    PASSING: tuple[type[Exception], ...] = (
+        sqlite3.OperationalError,
+        psycopg.OperationalError,
+        psycopg.InterfaceError,
+    )
 except ModuleNotFoundError:
-    FAULTS = (sqlite3.Error,)
+    FAULTS, PASSING = (sqlite3.Error,), (sqlite3.OperationalError,)
 
 HERE = Path(__file__).parent
 VERSION = 1
@@ -131,6 +137,14 @@ class Database:
         self.close()
 
 
+def name_fault(fault: Exception) -> StoreError:
+    """What a failure of the database is raised as."""
+    text = " ".join(str(fault).split())
+    if isinstance(fault, PASSING):
+        return StoreAway(f"the store does not answer: {text}")
+    return StoreError(f"the store failed: {text}")
+
+
 def report_faults(method: Callable[P, T]) -> Callable[P, T]:
     """Has a method raise StoreError where the database fails."""
 
@@ -139,7 +153,7 @@ def report_faults(method: Callable[P, T]) -> Callable[P, T]:
         try:
             return method(*words, **values)
         except FAULTS as fault:
-            raise StoreError(f"the store failed: {str(fault).strip()}") from fault
+            raise name_fault(fault) from fault
 
     return run
 
@@ -273,7 +287,7 @@ class PostgresDatabase(Database):
             )
             self.connection.execute("set time zone 'UTC'")
         except psycopg.Error as fault:
-            raise StoreError(f"the store can't be reached: {fault}") from None
+            raise StoreAway(f"the store can't be reached: {' '.join(str(fault).split())}") from None
         self.url = url
 
     @report_faults
@@ -323,7 +337,7 @@ class PostgresDatabase(Database):
             with self.connection.transaction():
                 yield
         except FAULTS as fault:
-            raise StoreError(f"the store failed: {str(fault).strip()}") from fault
+            raise name_fault(fault) from fault
 
     @contextmanager
     def snapshot(self) -> Iterator[None]:

@@ -1,7 +1,10 @@
 """The statements by which the engine reads and writes lines and rows. Each names its station by equality."""
 
+import json
+from collections import OrderedDict
 from collections.abc import Iterable, Sequence
-from datetime import datetime
+from dataclasses import dataclass, field
+from datetime import datetime, timezone
 from typing import Any, NamedTuple
 
 from ocpp_board.errors import StoreError
@@ -32,13 +35,8 @@ def insert_text(table: str, keys: Sequence[str], columns: Sequence[str]) -> str:
 
 
 KEYS = ("station", "transaction_id")
-WRITE_SESSION = insert_text("session", KEYS, ["site", *SESSION, "changed_at"])
-WRITE_PART = insert_text("part", (*KEYS, "starts"), PART[1:])
-WRITE_FINDING = insert_text("finding", (*KEYS, "kind"), FINDING[1:])
-ADD_LINE = """
-insert into line (station, transaction_id, number, received, line, who, origin, why)
-values (:station, :transaction, :number, :received, :line, :who, :origin, :why)
-"""
+# Transactions whose rows are written at once.
+WRITTEN_AT_ONCE = 1_000
 # A text that came again is counted, but for one of a place that was read before.
 COUNT_AGAIN = """
 on conflict (station, {key}) do update set
@@ -86,6 +84,8 @@ class Held(NamedTuple):
     site: str
     lines: list[Line]
     refusals: list[Row]
+    # What else is stored of it, where that is known.
+    kept: "Kept | None" = None
 
 
 def name_keys(keys: Iterable[Key]) -> list[dict[str, str]]:
@@ -96,39 +96,88 @@ def name_keys(keys: Iterable[Key]) -> list[dict[str, str]]:
 def find_sites(store: Database, stations: Sequence[str]) -> dict[str, str]:
     """The sites of those of these stations that are planned."""
     asked = "select station, site from station where station = :station"
-    rows = store.fetch_each(asked, [{"station": station} for station in stations])
-    return {row.station: row.site for some in rows for row in some}
+    if store.kind == "postgresql":
+        rows = store.fetch(
+            "select station, site from station where station = any(:stations)",
+            stations=list(stations),
+        )
+    else:
+        some = store.fetch_each(asked, [{"station": station} for station in stations])
+        rows = [row for one in some for row in one]
+    return {row.station: row.site for row in rows}
+
+
+def fetch_keyed(
+    store: Database, columns: str, table: str, keys: Sequence[Key], more: str = ""
+) -> list[list[Row]]:
+    """The rows of a table that belong to these transactions, which are sorted: a list for each of them. `more`: what
+    follows the condition."""
+    if not keys:
+        return []
+    if store.kind == "sqlite":
+        asked = f"select {columns} from {table} where {OF_SESSION} {more}"
+        return list(store.fetch_each(asked, name_keys(keys)))
+    found: list[list[Row]] = [[] for _ in keys]
+    for row in store.fetch(
+        f"""select k.place, t.* from json_to_recordset(:keys) as k (place int, s text, t text) cross join lateral (
+            select {columns} from {table}
+            where station = k.s and transaction_id = k.t and station = any(:stations) {more}) t""",
+        keys=write_keys(keys),
+        stations=list_stations(keys),
+    ):
+        found[row.place].append(row)
+    return found
+
+
+def write_keys(keys: Sequence[Key]) -> str:
+    """Keys as the JSON of a table with their places."""
+    return json.dumps([{"place": n, "s": key[0], "t": key[1]} for n, key in enumerate(keys)])
+
+
+def list_stations(keys: Iterable[Key]) -> list[str]:
+    """The stations of keys: by these PostgreSQL knows which partitions a statement needs."""
+    return sorted({key[0] for key in keys})
 
 
 def find_session_sites(store: Database, keys: Sequence[Key]) -> dict[Key, str]:
     """The sites of those of these transactions that are stored."""
-    asked = f"select station, transaction_id, site from session where {OF_SESSION}"
-    rows = store.fetch_each(asked, name_keys(keys))
-    return {(row.station, row.transaction_id): row.site for some in rows for row in some}
+    found = fetch_keyed(store, "site", "session", keys)
+    return {key: rows[0].site for key, rows in zip(keys, found) if rows}
 
 
-def hold_sessions(store: Database, sites: dict[Key, str]) -> dict[Key, Held]:
-    """Holds transactions up to the end of the database transaction, in the order of their keys, and reads what is
-    stored of them. `sites`: those of the ones that are not stored."""
+def hold_sessions(
+    store: Database, sites: dict[Key, str], warm: "Warm | None" = None
+) -> dict[Key, Held]:
+    """Holds transactions up to the end of the database transaction, in the order of their keys, and gives what is
+    stored of them. `sites`: those of the ones that are not stored; `warm`: what this process stored last."""
     keys = sorted(sites)
-    if store.kind == "postgresql":
-        store.execute_each(
-            "insert into session (station, transaction_id, site) values (:station, :transaction, :site) "
-            "on conflict (station, transaction_id) do nothing",
-            [one | {"site": sites[key]} for key, one in zip(keys, name_keys(keys))],
+    if store.kind == "postgresql" and keys:
+        store.execute(
+            """insert into session (station, transaction_id, site) select s, t, site
+            from json_to_recordset(:keys) as k (s text, t text, site text)
+            on conflict (station, transaction_id) do nothing""",
+            keys=json.dumps([{"s": key[0], "t": key[1], "site": sites[key]} for key in keys]),
         )
-    asked = choose(
-        f"select site, lines from session where {OF_SESSION} /*postgresql for update*/", store.kind
-    )
-    had = list(store.fetch_each(asked, name_keys(keys)))
-    stored = [key for key, rows in zip(keys, had) if rows and rows[0].lines]
+    lock = "for update" if store.kind == "postgresql" else ""
+    had = fetch_keyed(store, "site, lines, changed_at", "session", keys, lock)
+    kept = {
+        key: one
+        for key, rows in zip(keys, had)
+        if rows and warm and (one := warm.find(key, rows[0].lines, rows[0].changed_at))
+    }
+    stored = [key for key, rows in zip(keys, had) if rows and rows[0].lines and key not in kept]
     lines = dict(zip(stored, read_lines(store, stored)))
     refusals = dict(zip(keys, read_refusals(store, keys)))
     found = dict[Key, Held]()
     for key, rows in zip(keys, had):
         site = rows[0].site if rows else sites[key]
-        found[key] = Held(site, lines.get(key, []), refusals[key])
-        if rows and len(found[key].lines) != rows[0].lines:
+        if key in kept:
+            found[key] = Held(site, kept[key].lines, refusals[key], kept[key])
+            continue
+        own = lines.get(key, [])
+        # A transaction without lines has no other rows.
+        found[key] = Held(site, own, refusals[key], None if own else Kept())
+        if rows and len(own) != rows[0].lines:
             raise StoreError(
                 f"transaction {key[1]} of {key[0]} has not the lines that its row counts"
             )
@@ -137,36 +186,225 @@ def hold_sessions(store: Database, sites: dict[Key, str]) -> dict[Key, Held]:
 
 def read_lines(store: Database, keys: Sequence[Key]) -> Iterable[list[Line]]:
     """The lines of each of these transactions."""
-    asked = f"select number, line, received, who, why, origin from line where {OF_SESSION} order by number"
-    for rows in store.fetch_each(asked, name_keys(keys)):
-        yield [Line(*row) for row in rows]
+    columns = "number, line, received, who, why, origin"
+    for rows in fetch_keyed(store, columns, "line", keys, "order by number"):
+        yield [
+            Line(row.number, row.line, row.received, row.who, row.why, row.origin) for row in rows
+        ]
 
 
 def read_refusals(store: Database, keys: Sequence[Key]) -> Iterable[list[Row]]:
     """What was refused of each of these transactions and matters to its rows."""
-    asked = f"""select cause, digest, number, text, times from refusal where {OF_SESSION}
-    and cause in ('ConflictingEvent', 'Untaken')"""
-    return store.fetch_each(asked, name_keys(keys))
+    columns, more = "cause, digest, number, text, times", "and cause in ('ConflictingEvent', 'Untaken')"
+    return fetch_keyed(store, columns, "refusal", keys, more)
+
+
+# What a process stored last --------------------------------------------------------------------------------------------
+
+
+@dataclass(slots=True)
+class Kept:
+    """The lines of a transaction, and the rows of its periods and findings by the first of their columns."""
+
+    lines: list[Line] = field(default_factory=list)
+    parts: dict[Any, tuple[Any, ...]] = field(default_factory=dict)
+    findings: dict[Any, tuple[Any, ...]] = field(default_factory=dict)
+    changed_at: datetime | None = None
+    size: int = 0
+
+
+class Warm:
+    """What a process stored last of transactions, so that it needn't read it again. It counts while the transaction's
+    row has the count of lines and the moment of change that this process wrote."""
+
+    def __init__(self, most: int = 64 * 1_048_576) -> None:
+        """`most`: characters of lines that are kept."""
+        self.most, self.size = most, 0
+        self.kept = OrderedDict[Key, Kept]()
+
+    def find(self, key: Key, lines: int, changed_at: datetime | None) -> Kept | None:
+        """What is kept of a transaction, where that is what is stored."""
+        kept = self.kept.get(key)
+        if kept is None:
+            return None
+        if changed_at is None or (len(kept.lines), kept.changed_at) != (lines, changed_at):
+            self.drop(key)
+            return None
+        self.kept.move_to_end(key)
+        return kept
+
+    def drop(self, key: Key) -> None:
+        """Keeps nothing of a transaction."""
+        if kept := self.kept.pop(key, None):
+            self.size -= kept.size
+
+    def keep(self, key: Key, kept: Kept) -> None:
+        """Keeps what was committed of a transaction; others go where there is no room."""
+        self.drop(key)
+        kept.size = sum(len(line.text) for line in kept.lines) + 1_000
+        self.kept[key] = kept
+        self.size += kept.size
+        while self.size > self.most:
+            self.drop(next(iter(self.kept)))
+
+
+# Writing ----------------------------------------------------------------------------------------------------------------
+
+
+class Writer:
+    """Collects what changed of transactions, and writes it, each table by one statement in PostgreSQL."""
+
+    def __init__(self, store: Database, keeps: bool = False) -> None:
+        """`keeps`: what is written is kept, too."""
+        self.store, self.keeps = store, keeps
+        self.at = datetime.now(timezone.utc)
+        self.lines: list[dict[str, Any]] = []
+        self.sessions: list[dict[str, Any]] = []
+        self.rows: dict[Key, tuple[Held, list[dict[str, Any]], list[dict[str, Any]]]] = {}
+        self.empty: list[Key] = []
+        # What is stored of transactions once the database transaction is committed.
+        self.kept: dict[Key, Kept] = {}
+
+    def add(
+        self,
+        key: Key,
+        held: Held,
+        accepted: Sequence[Line],
+        session: dict[str, Any],
+        parts: list[dict[str, Any]],
+        findings: list[dict[str, Any]],
+    ) -> None:
+        """Collects the accepted lines of a transaction, and its rows."""
+        front = {"station": key[0], "transaction_id": key[1]}
+        for line in accepted:
+            self.lines.append(
+                front
+                | {"number": line.number, "received": line.received, "line": line.text}
+                | {"who": line.who, "origin": line.origin, "why": line.why}
+            )
+        session = {name: clean_text(value) for name, value in session.items()}
+        self.sessions.append(front | {"site": held.site, "changed_at": self.at} | session)
+        self.rows[key] = held, parts, findings
+        if self.keeps:
+            self.kept[key] = Kept(
+                [*held.lines, *accepted],
+                {one["starts"]: tuple(one.values()) for one in parts},
+                {one["kind"]: tuple(one.values()) for one in findings},
+                self.at,
+            )
+        if len(self.sessions) >= WRITTEN_AT_ONCE:
+            self.write()
+
+    def drop_empty(self, key: Key) -> None:
+        """Collects a transaction that was held and has no lines: its row goes again."""
+        if self.store.kind == "postgresql":
+            self.empty.append(key)
+
+    def write(self) -> None:
+        """Writes what was collected."""
+        if self.lines:
+            insert_lines(self.store, self.lines)
+        write_each(self.store, "session", KEYS, ["site", *SESSION, "changed_at"], self.sessions)
+        unknown = sorted(key for key, (held, _, _) in self.rows.items() if held.kept is None)
+        for table, columns, place in (("part", PART, 1), ("finding", FINDING, 2)):
+            had = dict(zip(unknown, fetch_keyed(self.store, ", ".join(columns), table, unknown)))
+            before = dict[Key, dict[Any, tuple[Any, ...]]]()
+            for key, one in self.rows.items():
+                if kept := one[0].kept:
+                    before[key] = dict(kept.parts if place == 1 else kept.findings)
+                else:
+                    before[key] = {
+                        getattr(row, columns[0]): tuple(getattr(row, name) for name in columns)
+                        for row in had[key]
+                    }
+            own = {key: one[1] if place == 1 else one[2] for key, one in self.rows.items()}
+            write_differences(self.store, table, columns, before, own)
+        if self.empty:
+            delete_each(self.store, "session", self.empty)
+        self.lines, self.sessions, self.rows, self.empty = [], [], {}, []
+
+
+def insert_lines(store: Database, rows: Sequence[dict[str, Any]]) -> None:
+    """Adds lines; one that is there fails."""
+    if store.kind == "sqlite":
+        store.insert_each("line", rows)
+        return
+    # PostgreSQL has a type `line` of its own, so the table's can't be named here.
+    names = ", ".join(rows[0])
+    store.execute(
+        f"""insert into line ({names}) select {names} from json_to_recordset(:rows) as r (station text,
+        transaction_id text, number int, received timestamptz, line text, who text, origin text, why text)""",
+        rows=json.dumps(rows, default=datetime.isoformat),
+    )
+
+
+def clean_text(text: Any) -> Any:
+    """A text as both databases keep it: without the character 0, and without half a surrogate pair."""
+    if not isinstance(text, str) or text.isascii() and "\0" not in text:
+        return text
+    return text.replace("\0", "\ufffd").encode("utf-8", "replace").decode()
+
+
+def write_each(
+    store: Database,
+    table: str,
+    keys: Sequence[str],
+    columns: Sequence[str],
+    rows: Sequence[dict[str, Any]],
+) -> None:
+    """Inserts rows, or writes their other columns where they are there."""
+    if not rows:
+        return
+    if store.kind == "sqlite":
+        store.execute_each(insert_text(table, keys, columns), rows)
+        return
+    names = ", ".join([*keys, *columns])
+    changes = ", ".join(f"{name} = excluded.{name}" for name in columns)
+    store.execute(
+        f"""insert into {table} ({names}) select {names} from json_populate_recordset(null::{table}, :rows)
+        on conflict ({', '.join(keys)}) do update set {changes}""",
+        rows=json.dumps(rows, default=datetime.isoformat),
+    )
 
 
 def write_differences(
-    store: Database, table: str, columns: Sequence[str], rows: dict[Key, list[dict[str, Any]]]
+    store: Database,
+    table: str,
+    columns: Sequence[str],
+    before: dict[Key, dict[Any, tuple[Any, ...]]],
+    own: dict[Key, list[dict[str, Any]]],
 ) -> None:
     """Writes the rows of transactions in `part` or `finding`: those that are not there or differ; others go."""
-    asked = f"select {', '.join(columns)} from {table} where {OF_SESSION}"
     name = columns[0]
     more, gone = list[dict[str, Any]](), list[dict[str, Any]]()
-    for (key, own), had in zip(rows.items(), store.fetch_each(asked, name_keys(rows))):
-        before = {row[0]: tuple(row) for row in had}
-        front = {"station": key[0], "transaction_id": key[1]}
-        for one in own:
-            if before.pop(one[name], None) != tuple(one.values()):
+    for key, rows in own.items():
+        front, had = {"station": key[0], "transaction_id": key[1]}, before[key]
+        for one in rows:
+            if had.pop(one[name], None) != tuple(one.values()):
                 more.append(front | one)
-        gone += [{"station": key[0], "transaction": key[1], "value": value} for value in before]
-    if gone:
-        store.execute_each(f"delete from {table} where {OF_SESSION} and {name} = :value", gone)
-    if more:
-        store.execute_each(WRITE_PART if table == "part" else WRITE_FINDING, more)
+        gone += [front | {name: value} for value in had]
+    if gone and store.kind == "sqlite":
+        where = f"station = :station and transaction_id = :transaction_id and {name} = :{name}"
+        store.execute_each(f"delete from {table} where {where}", gone)
+    elif gone:
+        store.execute(
+            f"""delete from {table} t using json_populate_recordset(null::{table}, :rows) g
+            where t.station = g.station and t.transaction_id = g.transaction_id and t.{name} = g.{name}
+                and t.station = any(:stations)""",
+            rows=json.dumps(gone, default=datetime.isoformat),
+            stations=list_stations((one["station"], "") for one in gone),
+        )
+    write_each(store, table, (*KEYS, name), columns[1:], more)
+
+
+def delete_each(store: Database, table: str, keys: Sequence[Key]) -> None:
+    """Deletes the rows of transactions that have no lines."""
+    store.execute(
+        f"""delete from {table} t using json_to_recordset(:keys) as k (s text, t text)
+        where t.station = k.s and t.transaction_id = k.t and t.lines = 0 and t.station = any(:stations)""",
+        keys=write_keys(keys),
+        stations=list_stations(keys),
+    )
 
 
 def find_digests(store: Database, station: str, cause: str) -> set[str]:

@@ -84,10 +84,11 @@ def lock_sites(store: Database, sites: list[str], is_alone: bool) -> None:
     writer at a time anyway."""
     if store.kind == "postgresql":
         word = "" if is_alone else "_shared"
-        for site in sorted(set(sites)):
-            store.execute(
-                f"select pg_advisory_xact_lock{word}({SITE_LOCK}, hashtext(:site))", site=site
-            )
+        store.execute(
+            f"""select pg_advisory_xact_lock{word}({SITE_LOCK}, hashtext(site))
+            from (select unnest(cast(:sites as text[])) as site order by 1) as sorted""",
+            sites=sorted(set(sites)),
+        )
 
 
 def write_site(
@@ -196,6 +197,7 @@ def retire_station(store: Database, station: str, author: Author, where: str = "
             station=station,
             now=datetime.now(timezone.utc),
         )
+        store.execute("delete from password where station = :station", station=station)
         before, after = ({"site": had.site, "retired": is_retired} for is_retired in (False, True))
         note_change(store, author, "station", station, json.dumps(before), json.dumps(after))
 
