@@ -286,6 +286,8 @@ class PostgresDatabase(Database):
                 url, autocommit=True, row_factory=namedtuple_row, prepare_threshold=2
             )
             self.connection.execute("set time zone 'UTC'")
+            # To compile a plan over all partitions takes far longer than to run it.
+            self.connection.execute("set jit = off")
         except psycopg.Error as fault:
             raise StoreAway(f"the store can't be reached: {' '.join(str(fault).split())}") from None
         self.url = url
