@@ -50,7 +50,7 @@ def find_texts(store: Database, word: str) -> int:
     """How many texts of the store have a word."""
     asked = (
         "select line as text from line union all select text from refusal union all select text from stray "
-        "union all select token || signed as text from session"
+        "union all select token || signed as text from session union all select came as text from mended"
     )
     return sum(word.lower() in row.text.lower() for row in store.fetch(asked))
 
@@ -64,12 +64,17 @@ def test_all_tokens_leave_and_all_figures_stay(store: Database) -> None:
     stray = give_token(sound("t4", FIRST), "Gh78")
     settle(store, [Message("unknown", write_message(stray[0]), stray[0].received, "a log")])
     operate(store, "void", "A", "t1", 0, FIRST)
+    came = write_message(give_token(sound("t5", FIRST), "Ij90")[0])
+    mended = Message("A", came.replace("Ij90", ""), FIRST, "a log", mends="unit", came=came)
+    settle(store, [mended])
     before = read_figures(store)
-    assert all(find_texts(store, one) for one in ("Ab12", "Cd34", "Ef56", "Gh78", "4711"))
+    assert all(find_texts(store, one) for one in ("Ij90", "Ab12", "Cd34", "Ef56", "Gh78", "4711"))
 
     found = forget_tokens(store, find_program(), Wanted())
-    assert (found.lines, found.sessions, found.texts, found.kept) == (3, 2, 2, [])
-    assert not any(find_texts(store, one) for one in ("Ab12", "Cd34", "Ef56", "Gh78", "4711"))
+    assert (found.lines, found.sessions, found.texts, found.kept) == (3, 2, 3, [])
+    assert not any(
+        find_texts(store, one) for one in ("Ij90", "Ab12", "Cd34", "Ef56", "Gh78", "4711")
+    )
     assert read_figures(store) == before
     assert verify(store).difference == ""
     # An emptied event is a repeat of the one that had the token, and an operator's line still finds it.
@@ -157,11 +162,11 @@ def test_old_sessions_become_files_that_replay(store: Database, tmp_path: Path) 
     (old,) = store.fetch("select up, down, events from session where transaction_id = 'old'")
     with zipfile.ZipFile(close_and_move(store, tmp_path)) as packed:
         names = set(packed.namelist())
-        script = packed.read("A.1.script")
+        script = packed.read("1.script")
         sessions = list(csv.DictReader(io.TextIOWrapper(packed.open("session.csv"))))
         parts = list(csv.DictReader(io.TextIOWrapper(packed.open("closed_part.csv"))))
     assert {
-        "A.1.script",
+        "1.script",
         "session.csv",
         "part.csv",
         "line.csv",
