@@ -176,8 +176,7 @@ def test_old_sessions_become_files_that_replay(store: Database, tmp_path: Path) 
     assert [row["transaction_id"] for row in sessions] == ["old"]
     assert sum(int(row["up"]) for row in parts) == old.up
     reader = AnswerReader(find_program().answer(script))
-    answers = [reader.read_answer().outcome for _ in range(6)]
-    assert answers == ["accepted"] * 6
+    assert all(one.startswith("accepted ") for one in reader.read_some(6))
     total = reader.read_board().own.total
     assert (total.events, total.flow.up, total.flow.down) == (old.events, old.up, old.down)
     # Nothing of it is in the store but where it went, and the rest has its figures.

@@ -96,7 +96,7 @@ def prepare_session(
         if answer.outcome != "accepted":
             raise InputError(
                 f"{wanted[0].where}: transaction {transaction} of {station} would not take the correction: "
-                f"{answer.outcome} {answer.name}"
+                f"{answer.name or answer.reply or answer.outcome}"
             )
     return Prepared(station, transaction, asked, had.rows, done.rows)
 

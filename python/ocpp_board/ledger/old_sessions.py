@@ -30,21 +30,13 @@ where s.site = :site and t.state <> 'provisional' and s.last_at < :before
 order by s.station, s.transaction_id
 """
 OWN_LINES = """
-select station, transaction_id, line from line where station = :station and transaction_id = :transaction_id order by number
+select station, transaction_id, line from line
+where station = :station and transaction_id = :transaction_id order by number
 """
-# What the store has of a session, by its tables, in the order in which they are removed.
+# The tables that have something of a session, in the order in which it is removed.
 TABLES = (
-    *(
-        "part",
-        "finding",
-        "closed_part",
-        "closed_session",
-        "adjustment",
-        "release",
-        "rule_settled",
-        "deed",
-    ),
-    *("refusal", "line", "session"),
+    *("part", "finding", "closed_part", "closed_session", "adjustment", "release", "rule_settled"),
+    *("deed", "refusal", "mended", "line", "session"),
 )
 OWN = "station = :station and transaction_id = :transaction_id"
 LOCK = f"select lines from session where {OWN} for update"

@@ -21,11 +21,12 @@ where c.settled is not null and not exists (
     select 1 from closed_session l
     where l.station = c.station and l.transaction_id = c.transaction_id and l.closing > c.closing);
 
--- The state of each session: provisional (no closing settled it, or a line came since), settled, or corrected (a later
--- closing settled another figure). `settled`: 'complete', by 'rule', or null.
+-- The state of each session: provisional (no closing settled it, or a line came or its figures changed since), settled,
+-- or corrected (a later closing settled another figure). `settled`: 'complete', by 'rule', or null.
 create view session_state as
 select s.site, s.station, s.transaction_id,
-    case when l.settled is null or l.lines <> s.lines then 'provisional'
+    case when l.settled is null or l.lines <> s.lines or l.up <> s.up or l.down <> s.down
+            or l.export_up <> s.export_up or l.export_down <> s.export_down then 'provisional'
         when exists (
             select 1 from closed_session b
             where b.station = s.station and b.transaction_id = s.transaction_id and b.settled is not null
@@ -67,7 +68,8 @@ from session s left join (
     from adjustment group by station, transaction_id) a
     on a.station = s.station and a.transaction_id = s.transaction_id;
 
--- Why a session is not billed before somebody looked at it: a finding by which its energy is wrong, or an energy below 0.
+-- Why a session is not billed before somebody looked at it: a finding by which its energy is wrong, or an energy below
+-- 0.
 -- `released_by` and `why`: who released it, for the figures that it has; empty while it is held.
 create view hold as
 select h.site, h.station, h.transaction_id, h.kind, h.detail, coalesce(r.who, '') as released_by,
