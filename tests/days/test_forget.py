@@ -71,7 +71,7 @@ def test_all_tokens_leave_and_all_figures_stay(store: Database) -> None:
     assert all(find_texts(store, one) for one in ("Ij90", "Ab12", "Cd34", "Ef56", "Gh78", "4711"))
 
     found = forget_tokens(store, find_program(), Wanted())
-    assert (found.lines, found.sessions, found.texts, found.kept) == (3, 2, 3, [])
+    assert (found.lines, found.sessions, found.texts, found.kept) == (4, 3, 3, [])
     assert not any(
         find_texts(store, one) for one in ("Ij90", "Ab12", "Cd34", "Ef56", "Gh78", "4711")
     )
