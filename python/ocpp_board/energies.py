@@ -37,7 +37,9 @@ class Flow(NamedTuple):
 
     def plus(self, other: "Flow") -> "Flow":
         """Both together."""
-        return Flow(*(a + b for a, b in zip(self, other)))
+        a, b, c, d = self
+        e, f, g, h = other
+        return Flow(a + e, b + f, c + g, d + h)
 
     def minus(self, other: "Flow") -> "Flow":
         """By how much this is more than another one."""

@@ -29,9 +29,7 @@ class Password(NamedTuple):
 
 def hash_password(password: bytes, salt: bytes, cost: int = COST) -> bytes:
     """The hash of a password, by scrypt."""
-    return hashlib.scrypt(
-        password, salt=salt, n=cost, r=BLOCK, p=LANES, dklen=HASH, maxmem=MEMORY
-    )
+    return hashlib.scrypt(password, salt=salt, n=cost, r=BLOCK, p=LANES, dklen=HASH, maxmem=MEMORY)
 
 
 def make_password(password: str) -> Password:
@@ -43,7 +41,9 @@ def make_password(password: str) -> Password:
 def find_mistake(password: str) -> str:
     """Why a text can't be a station's password; nothing where it can."""
     if not SHORTEST <= len(password) <= LONGEST:
-        return f"a password has {SHORTEST} to {LONGEST} characters, and this one has {len(password)}"
+        return (
+            f"a password has {SHORTEST} to {LONGEST} characters, and this one has {len(password)}"
+        )
     return "" if password.isprintable() else "a password has no control characters"
 
 

@@ -67,6 +67,12 @@ async def wait_for_close(socket: WebSocketClientProtocol, seconds: float = 30.0)
         return socket.close_code or 0
 
 
+def make_reply(transaction: str, number: int) -> str:
+    """The reply to an event that is taken; the first has a driver's token, which is accepted."""
+    payload = '{"idTokenInfo":{"status":"Accepted"}}' if number == 0 else "{}"
+    return f'[3,"{transaction}-{number}",{payload}]'
+
+
 def make_event(
     transaction: str, number: int, of: int = 0, start: int = 0, message: str = ""
 ) -> str:

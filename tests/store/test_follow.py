@@ -1,7 +1,6 @@
 """Logs that grow and are rotated."""
 
 import gzip
-import logging
 import os
 import shutil
 import time

@@ -12,25 +12,27 @@ the message's header `stationId`, or else what follows the last point of the rou
 last slash of the topic. Messages of stations that the plan does not have are kept as strays, and are taken once it has
 them.
 
-Once a minute and at the end the feed logs what became of the messages. The status is 0, and 2 if the words, a password
-or a queue is wrong. It logs once that the store or the broker is away, and tries again and again.
+Once a minute and at the end the feed logs what became of the messages. It logs once that the store or the broker is away,
+and tries again and again.
 """
 
 import argparse
 import signal
-from collections.abc import Sequence
 
+from ocpp_board.commands.options import add_program, add_store, choose_program
 from ocpp_board.errors import UsageError
 from ocpp_board.feed.keeper import Keeper, Stopped
-from ocpp_board.words import parsed, parser_of
 
+ENDING = """\
+Exit status: 0 when a signal ended it; 2 when the words are wrong, or a broker lets nobody in or has no such queue."""
 # The Python packages of brokers, and Debian's packages that have them.
 PACKAGES = {"pika": "python3-pika", "paho": "python3-paho-mqtt"}
 
 
 def add_words(parser: argparse.ArgumentParser) -> None:
     """The words of the command."""
-    parser.add_argument("--store", required=True, help="ledger.db or postgresql://..")
+    add_store(parser)
+    add_program(parser)
     sources = parser.add_subparsers(dest="source", required=True, metavar="rabbitmq|mqtt")
     rabbit = sources.add_parser("rabbitmq", help="a queue of RabbitMQ (needs python3-pika)")
     rabbit.add_argument(
@@ -51,6 +53,7 @@ def add_words(parser: argparse.ArgumentParser) -> None:
 
 def run(words: argparse.Namespace) -> int:
     """Stores what comes until a signal ends it. Raises UsageError."""
+    choose_program(words.program)
     keeper = Keeper(words.store)
     for number in (signal.SIGTERM, signal.SIGINT):
         signal.signal(number, lambda *_: keeper.is_ending.set())
@@ -75,10 +78,3 @@ def run(words: argparse.Namespace) -> int:
         pass
     keeper.report(is_due=True)
     return 0
-
-
-def main(argv: Sequence[str], prog: str) -> int:
-    """Runs the command with these words; gives its exit status."""
-    parser = parser_of(prog, __doc__)
-    add_words(parser)
-    return run(parsed(parser, argv))

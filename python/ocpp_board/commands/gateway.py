@@ -14,10 +14,12 @@ as you like, on any machines, and end them at any time.
 
 import argparse
 import asyncio
-from collections.abc import Sequence
 
-from ocpp_board.words import options_of, parsed, parser_of
+from ocpp_board.commands.options import add_program, add_store, choose_program
+from ocpp_board.words import options_of
 
+ENDING = """\
+Exit status: 0 when a signal ended it; 2 when the words are wrong, or a file or the port can't be used."""
 LEAST_PATIENCE, MOST_LANES = 1.0, 64
 
 
@@ -36,7 +38,9 @@ def read_patience(text: str) -> float:
     except ValueError:
         seconds = 0.0
     if not LEAST_PATIENCE <= seconds <= 3600:
-        raise argparse.ArgumentTypeError(f"no time from {LEAST_PATIENCE:.0f} to 3600 seconds: {text!r}")
+        raise argparse.ArgumentTypeError(
+            f"no time from {LEAST_PATIENCE:.0f} to 3600 seconds: {text!r}"
+        )
     return seconds
 
 
@@ -49,7 +53,8 @@ def read_lanes(text: str) -> int:
 
 def add_words(parser: argparse.ArgumentParser) -> None:
     """The words of the command."""
-    parser.add_argument("--store", required=True, help="ledger.db or postgresql://..")
+    add_store(parser)
+    add_program(parser)
     parser.add_argument("--host", default="127.0.0.1", help="where to listen (default: 127.0.0.1)")
     parser.add_argument("--port", type=int, default=9100, help="the port (default: 9100)")
     parser.add_argument(
@@ -64,7 +69,6 @@ def add_words(parser: argparse.ArgumentParser) -> None:
         default=2,
         help="how many batches are settled at once, each by a process (default: 2; SQLite takes one after the other)",
     )
-    parser.add_argument("--program", metavar="PATH", help="the proved program, or its library")
     parser.add_argument(
         "--proxy",
         metavar="ADDRESS",
@@ -118,6 +122,7 @@ def run(words: argparse.Namespace) -> int:
     from ocpp_board.gateway.certificates import Files
     from ocpp_board.gateway.gateway import Gateway, Options, use_uvloop
 
+    choose_program(words.program)
     options, files = options_of(Options, words), options_of(Files, words)
 
     async def serve() -> None:
@@ -126,10 +131,3 @@ def run(words: argparse.Namespace) -> int:
     use_uvloop()
     asyncio.run(serve())
     return 0
-
-
-def main(argv: Sequence[str], prog: str) -> int:
-    """Runs the command with these words; gives its exit status."""
-    parser = parser_of(prog, __doc__)
-    add_words(parser)
-    return run(parsed(parser, argv))

@@ -68,7 +68,8 @@ class Declared:
 
 class Loader:
     """Takes records into a store. `counts`: how many of them became what; `changed`: the stations and transactions that
-    something was accepted of, and the stations of which something was refused, with no transaction."""
+    something was accepted of, and the stations of which something was refused, with no transaction.
+    """
 
     def __init__(
         self, store: Database, wanted: Wanted, author: Author, pool: Pool | None = None

@@ -69,6 +69,4 @@ def read_maeve(station: str, text: str, origin: str) -> Message | None:
             raise Refused(f"{field!r} is no text")
     if "request" not in values:
         raise Refused("'request' is missing")
-    return make_message(
-        station, f"[2,{texts['id']},{texts['action']},{texts['request']}]", origin
-    )
+    return make_message(station, f"[2,{texts['id']},{texts['action']},{texts['request']}]", origin)

@@ -168,9 +168,7 @@ class Certificates:
         peer = str((transport.get_extra_info("peername") or ("",))[0])
         if peer not in self.files.proxy or not is_ours or verdict != "SUCCESS":
             return ""
-        names = [
-            value for key, value in read_subject(subject) if key.upper() in ("CN", "2.5.4.3")
-        ]
+        names = [value for key, value in read_subject(subject) if key.upper() in ("CN", "2.5.4.3")]
         return names[0] if len(names) == 1 else ""
 
 

@@ -9,7 +9,6 @@ import asyncio
 import logging
 import pickle
 import struct
-import sys
 import time
 import zlib
 from collections import Counter, deque
@@ -18,6 +17,8 @@ from dataclasses import dataclass, field
 from datetime import datetime, timezone
 from enum import Enum
 from typing import Any, NamedTuple
+
+from ocpp_board.processes import MODULE, environment
 
 log = logging.getLogger(__name__)
 
@@ -91,9 +92,10 @@ class Settler:
         """Hands a batch to the process, and reads what it answers."""
         if self.process is None:
             self.process = await asyncio.create_subprocess_exec(
-                *(sys.executable, "-m", "ocpp_board.gateway.settler", *self.words),
+                *(*MODULE, "ocpp_board.gateway.settler", *self.words),
                 stdin=asyncio.subprocess.PIPE,
                 stdout=asyncio.subprocess.PIPE,
+                env=environment(),
             )
         read, write = self.process.stdout, self.process.stdin
         assert read and write

@@ -40,9 +40,7 @@ class Clerk:
         loop = asyncio.get_running_loop()
         try:
             async with asyncio.timeout(ANSWER):
-                return await asyncio.shield(
-                    loop.run_in_executor(self.thread, self.do, job, *words)
-                )
+                return await asyncio.shield(loop.run_in_executor(self.thread, self.do, job, *words))
         except TimeoutError:
             self.is_up = False
             raise StoreError(f"the store gave no answer for {ANSWER:.0f} seconds") from None

@@ -1,6 +1,6 @@
 """The process that settles batches: reads them from standard input, and writes their answers to standard output.
 
-    python3 -m ocpp_board.gateway.settler STORE [PROGRAM]
+    python3 -m ocpp_board.gateway.settler STORE
 
 A batch is pickled by the gateway, which is the only writer of this process' standard input.
 """

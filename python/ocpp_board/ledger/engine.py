@@ -10,10 +10,12 @@ from collections.abc import Callable, Iterable, Iterator, Sequence
 from dataclasses import dataclass, field
 from datetime import datetime, timezone
 from functools import partial
+from operator import attrgetter
 from typing import Any, NamedTuple, Protocol
 
-from ocpp_board.ledger.answers import LineAnswer, Wish
+from ocpp_board.ledger.answers import Wish
 from ocpp_board.ledger.program import find_program
+from ocpp_board.ledger.quotas import Asking, find_refused, write_reply
 from ocpp_board.ledger.refusals import (
     CONFLICT,
     UNKNOWN_STATION,
@@ -29,7 +31,7 @@ from ocpp_board.ledger.refusals import (
     name_cause,
     read_levels,
 )
-from ocpp_board.ledger.rows import DELIVER, Done, Work, work_out
+from ocpp_board.ledger.rows import DELIVER, Done, Work, list_accepted, work_out
 from ocpp_board.limits import FIRST_MOMENT
 from ocpp_board.messages.texts import one_line
 from ocpp_board.messages.times import SECOND
@@ -211,10 +213,12 @@ def write_batch(
     """Writes what a batch changes, within a database transaction, and answers the rest of it."""
     sites = hold_sites(store, batch)
     leave_strays(batch, sites)
+    refuse_by_quotas(store, batch, sites)
     held = store_lines.hold_sessions(
         store, {key: sites[key[0]] for key in batch.sessions if key[0] in sites}, warm
     )
     deeds = find_done(store, batch)
+    batch.answers |= deeds
     rules = find_all_rules(store, {one.site for one in held.values()})
     works = {
         key: Work(
@@ -231,7 +235,7 @@ def write_batch(
     }
     writer = Writer(store, warm is not None)
     for key, work, done in work_on(works, pool):
-        take_answers(writer, batch, key, done, held[key], deeds)
+        take_answers(writer, batch, work, done, held[key], deeds)
     writer.write()
     write_refusals(store, batch)
     write_strays(store, batch)
@@ -266,6 +270,36 @@ def leave_strays(batch: Batch, sites: dict[str, str]) -> None:
     for one in batch.others:
         if one.station not in sites:
             batch.strays.append((one, Wish("reply")))
+
+
+def refuse_by_quotas(store: Database, batch: Batch, sites: dict[str, str]) -> None:
+    """Answers messages that are above a quota of their site, which change nothing."""
+    asking = [
+        Asking(place, one, key)
+        for key, places in batch.sessions.items()
+        for place in places
+        if isinstance(one := batch.asked[place], Message)
+    ]
+    values = {id(one) for one in batch.others}
+    asking += [
+        Asking(place, one, None)
+        for place, one in enumerate(batch.asked)
+        if id(one) in values and isinstance(one, Message) and one.station in sites
+    ]
+    asking.sort(key=attrgetter("place"))
+    for place, name in find_refused(store, asking, sites).items():
+        one = batch.asked[place]
+        assert isinstance(one, Message)
+        key = (one.station, batch.wishes[place].text)
+        if key in batch.sessions:
+            batch.sessions[key].remove(place)
+            if not batch.sessions[key]:
+                del batch.sessions[key]
+        else:
+            batch.others = [other for other in batch.others if other is not one]
+        refusal = describe_message(one.text, name, one.received)
+        batch.refusals.append((one, refusal, refusal.sent_id.lower()))
+        batch.answers[place] = Answer("refused", name, write_reply(one.text, name))
 
 
 def find_all_rules(store: Database, sites: Iterable[str]) -> dict[str, Rules]:
@@ -361,29 +395,23 @@ def work_piece(works: list[Work]) -> list[Done]:
 
 
 def take_answers(
-    writer: Writer, batch: Batch, key: Key, done: Done, held: Held, deeds: dict[int, Answer]
+    writer: Writer, batch: Batch, work: Work, done: Done, held: Held, deeds: dict[int, Answer]
 ) -> None:
     """Notes the answers to a transaction's lines, and has its lines and rows written."""
-    store = writer.store
-    answers, taken = iter(done.answers), set[int]()
-    for place in batch.sessions[key]:
+    key, store, taken = (work.station, work.transaction), writer.store, set[int]()
+    places = [place for place in batch.sessions[key] if place not in deeds]
+    for place, (outcome, name, reply, change) in zip(places, done.answers):
+        batch.answers[place] = Answer(outcome, name, reply, key[1], change)
         one = batch.asked[place]
-        if place in deeds:
-            batch.answers[place] = deeds[place]
-            continue
-        answer = next(answers)
-        batch.answers[place] = Answer(
-            answer.outcome, answer.name, answer.reply, key[1], answer.change
-        )
-        if isinstance(one, Deed):
-            write_deed(store, one, answer)
-        elif isinstance(one, Message):
-            if answer.outcome in ("accepted", "repeat"):
+        if isinstance(one, Message):
+            if outcome in ("accepted", "repeat"):
                 taken.add(batch.wishes[place].number)
-            elif answer.outcome in ("refused", "fault"):
-                refusal = describe_message(one.text, answer.name, one.received)
+            elif outcome in ("refused", "fault"):
+                refusal = describe_message(one.text, name, one.received)
                 batch.refusals.append((one, refusal, key[1]))
-    write_rows(writer, key, held, done)
+        elif isinstance(one, Deed):
+            write_deed(store, one, batch.answers[place])
+    write_rows(writer, work, held, done)
     untaken = [row for row in held.refusals if row.cause == UNTAKEN and row.number in taken]
     if untaken:
         store.execute_each(
@@ -392,8 +420,9 @@ def take_answers(
         )
 
 
-def write_rows(writer: Writer, key: Key, held: Held, done: Done) -> None:
+def write_rows(writer: Writer, work: Work, held: Held, done: Done) -> None:
     """Has the accepted lines of a transaction and its rows written."""
+    key = work.station, work.transaction
     if done.rows is None:
         if not held.lines:
             writer.drop_empty(key)
@@ -404,10 +433,10 @@ def write_rows(writer: Writer, key: Key, held: Held, done: Done) -> None:
         for one in done.rows.findings
     ]
     session = done.rows.session._asdict()
-    writer.add(key, held, done.accepted, session, parts, findings)
+    writer.add(key, held, list_accepted(work, done.answers), session, parts, findings)
 
 
-def write_deed(store: Database, one: Deed, answer: LineAnswer) -> None:
+def write_deed(store: Database, one: Deed, answer: Answer) -> None:
     """Adds an operator's line with its answer."""
     store.execute(
         store_lines.ADD_DEED,
@@ -416,7 +445,7 @@ def write_deed(store: Database, one: Deed, answer: LineAnswer) -> None:
         why=one.why,
         outcome=answer.outcome,
         name=answer.name,
-        count=answer.change,
+        count=answer.count,
     )
 
 
@@ -548,8 +577,8 @@ def compute_again(store: Database, site: str, rules: Rules) -> int:
             for key, one in held.items()
         }
         writer = Writer(store)
-        for key, _, done in work_on(works, None):
-            write_rows(writer, key, held[key], done)
+        for key, work, done in work_on(works, None):
+            write_rows(writer, work, held[key], done)
         writer.write()
         count, after = count + len(keys), keys[-1]
 

@@ -245,6 +245,14 @@ REMEDIES = {
         "the station has accepted as many changes as its limits allow",
         MORE_ROOM,
     ),
+    "TooManyOpen": (
+        "the station has as many transactions without an end as its site's quota allows",
+        "look why the station ends none; raise the quota by `plan quota` where it is right",
+    ),
+    "TooManyBytes": (
+        "the station sent as much on this day (UTC) as its site's quota allows",
+        "look what the station sends; raise the quota by `plan quota` where it is right",
+    ),
     "NoSuchEvent": (
         "the station has no event with this transaction id and this number",
         "compare the id and the number with the board; an event that was refused is not there",

@@ -1,6 +1,7 @@
 """Files that are read: standard input where none is named, and what is compressed by gzip."""
 
 import gzip
+import os
 from collections.abc import Iterator
 from io import BufferedReader
 from pathlib import Path
@@ -16,7 +17,7 @@ BLOCK = 1_048_576
 
 def open_input(name: str) -> BufferedReader:
     """Opens a file for its bytes, or standard input where the name is `-`. Raises OSError."""
-    return open(0, "rb") if name == "-" else open(Path(name), "rb")
+    return open(os.dup(0), "rb") if name == "-" else open(Path(name), "rb")
 
 
 def is_gzip(file: BufferedReader) -> bool:

@@ -118,7 +118,7 @@ class LogReader:
         messages are wanted, and not only of those with the moment in their replies."""
         self.shape, self.plan, self.name = shape, plan, name
         self.has_times, self.is_utc = has_times, is_utc
-        self.form = shape.make_form(has_site=not plan.asked.has_sites)
+        self.form = shape.make_form(has_site=plan.reads_sites)
         self.counts, self.mender = dict.fromkeys(self.KINDS, 0), Mender(plan.asked.mend)
         # What the line says that is read, as far as it was understood.
         self.entry: Entry | None = None
@@ -170,7 +170,7 @@ class LogReader:
             moment, note = self.find_moment(entry)
         origin = f"{self.name}:{number}"
         came = entry.message if mends else ""
-        message = Message(station, text, moment, origin, site, ",".join(mends), came)
+        message = Message(station, text, moment, origin, site or None, ",".join(mends), came)
         return Read("messages", message, needs_time, note)
 
     def find_moment(self, entry: Entry) -> tuple[datetime | None, Refused | None]:

@@ -1,8 +1,8 @@
 """The one reader of scripts, and the comments by which scripts keep what a replay doesn't need.
 
 Any script of a replay is a source. Its messages and operators' lines become records, and its declarations say which site
-a station has. A comment in front of a message says when it was received (`# received <time>`), or has the message as it
-came (`# mended ..`). A comment in front of an operator's line says who had it done and why (`# operator ..`), and
+a station has. A comment in front of a message says when it was received (`# received <time>`), or has the message as
+it came (`# mended ..`). A comment in front of an operator's line says who had it done and why (`# operator ..`), and
 `# untaken ..` keeps a line of a log that could not be taken.
 """
 

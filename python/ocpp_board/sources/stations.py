@@ -124,6 +124,11 @@ class StationPlan:
         self.is_fixed = asked.stations is not None
         self.read_stations()
 
+    @property
+    def reads_sites(self) -> bool:
+        """Whether lines say which site a station has."""
+        return not self.asked.has_sites
+
     def read_stations(self) -> None:
         """Reads the file of stations. Raises OSError, and UsageError."""
         try:
@@ -190,6 +195,34 @@ class StationPlan:
 
     def check_room(self, site: str, station: str) -> None:
         """Raises Refused where there is no room for one station more. A store has room for all."""
+
+
+class OpenPlan(StationPlan):
+    """The stations of a store, which keeps messages of stations that no site has until the plan has them."""
+
+    def place(self, entry: Entry) -> tuple[str, str]:
+        """The site and the station of a line; the site is empty where no site is known to have the station. Raises
+        Refused where the station is no name."""
+        is_unknown = entry.station not in self.site_of and entry.station not in self.map
+        if is_unknown and not self.asked.one_site and (self.is_fixed or self.asked.site_map):
+            return "", require_name("station", entry.station)
+        return super().place(entry)
+
+    def admit(self, site: str, station: str) -> bool:
+        """Takes a station, and gives whether it is new. Raises Refused where it has another site already."""
+        return bool(site) and super().admit(site, station)
+
+
+class StorePlan(OpenPlan):
+    """The stations of a store, to which a file and one site of all others add. What lines say of sites is not read."""
+
+    reads_sites = False
+
+    def place(self, entry: Entry) -> tuple[str, str]:
+        """The site and the station of a line; the site is empty where no site has the station. Raises Refused where the
+        station is no name."""
+        site = self.site_of.get(entry.station) or self.asked.one_site or ""
+        return site, entry.station if site else require_name("station", entry.station)
 
 
 def split_site(text: str) -> tuple[str, str]:

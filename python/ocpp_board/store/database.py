@@ -59,6 +59,7 @@ def is_moment(column: str) -> bool:
     return column in MOMENTS or column.endswith(("_at", "_until"))
 
 
+@lru_cache(65_536)
 def write_moment(at: datetime) -> str:
     """A moment as SQLite keeps it."""
     return at.astimezone(timezone.utc).isoformat(" ", "microseconds")
@@ -122,6 +123,14 @@ class Database:
         """The first row of a statement; None where it has none."""
         rows = self.fetch(statement, **values)
         return rows[0] if rows else None
+
+    def has_table(self, table: str) -> bool:
+        """Whether there is a table of this name."""
+        if self.kind == "sqlite":
+            asked = "select 1 as one from sqlite_master where name = :name"
+        else:
+            asked = "select 1 as one from pg_class where oid = to_regclass(cast(:name as text))"
+        return self.fetch_one(asked, name=table) is not None
 
     def insert_each(self, table: str, rows: Sequence[Values]) -> None:
         """Inserts rows, which all have the same columns."""
@@ -189,9 +198,10 @@ class SqliteDatabase(Database):
         self.connection.executemany(statement, values)
 
     @report_faults
-    def execute_script(self, text: str) -> None:
-        """Runs statements."""
-        self.connection.executescript(text)
+    @report_faults
+    def insert_rows(self, statement: str, rows: Iterable[tuple[Any, ...]]) -> None:
+        """Runs a statement for each of these rows, by the places of its marks `?`."""
+        self.connection.executemany(statement, rows)
 
     @report_faults
     def fetch(self, statement: str, **values: Any) -> list[Row]:
@@ -304,11 +314,6 @@ class PostgresDatabase(Database):
             cursor.executemany(write_postgresql(statement), values)
 
     @report_faults
-    def execute_script(self, text: str) -> None:
-        """Runs statements."""
-        self.connection.execute(text)
-
-    @report_faults
     def fetch(self, statement: str, **values: Any) -> list[Row]:
         """The rows of a statement."""
         return list(self.connection.execute(write_postgresql(statement), values).fetchall())
@@ -373,6 +378,14 @@ def open_store(name: str, is_durable: bool = True) -> Database:
     return database
 
 
+def open_again(store: Database) -> Database:
+    """Another connection to the same store, for another thread or process. Raises StoreError."""
+    if isinstance(store, SqliteDatabase):
+        return SqliteDatabase(store.path)
+    assert isinstance(store, PostgresDatabase)
+    return PostgresDatabase(store.url)
+
+
 def make_tables(database: SqliteDatabase | PostgresDatabase) -> None:
     """Makes the tables and views of a store that has none. Raises StoreError where it has those of another version."""
     if not has_table(database):
@@ -386,11 +399,7 @@ def make_tables(database: SqliteDatabase | PostgresDatabase) -> None:
 
 def has_table(database: Database) -> bool:
     """Whether the store has tables."""
-    if database.kind == "sqlite":
-        asked = "select 1 as one from sqlite_master where name = 'store'"
-    else:
-        asked = "select 1 as one from pg_class where oid = to_regclass('store')"
-    return database.fetch_one(asked) is not None
+    return database.has_table("store")
 
 
 def list_sources() -> list[Path]:

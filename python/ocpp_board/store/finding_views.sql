@@ -13,18 +13,23 @@ create view session_gap as
         /*postgresql lateral regexp_split_to_table(s.gaps, ' ') as g(value)*/
     where s.gaps <> '';
 
--- Ranges of numbers that count in a transaction: what its gaps leave.
+-- Ranges of numbers that count in a transaction: what its gaps leave. Each ends before a gap, and the last one (`-`) at
+-- the last number.
 create view session_run as
-    select station, transaction_id, first_number, coalesce(
-        lead(gap_first) over (partition by station, transaction_id order by first_number) - 1, whole_last
-        ) as last_number
-    from (
-        select station, transaction_id, first_number, null as gap_first, last_number as whole_last
-        from session where events > 0
-        union all
-        select g.station, g.transaction_id, g.last_number + 1, g.first_number, s.last_number
-        from session_gap g join session s on s.station = g.station and s.transaction_id = g.transaction_id
-        where s.events > 0) runs;
+    select s.station, s.transaction_id,
+        /*sqlite case when g.key = 0 then s.first_number
+            else cast(substr(json_extract(g.json, '$[' || (g.key - 1) || ']'),
+                instr(json_extract(g.json, '$[' || (g.key - 1) || ']'), '..') + 2) as integer) + 1 end*/
+        /*postgresql case when g.place = 1 then s.first_number
+            else split_part((string_to_array(ltrim(s.gaps || ' -'), ' '))[g.place - 1], '..', 2)::bigint + 1 end*/
+            as first_number,
+        case when g.value = '-' then s.last_number
+            /*sqlite else cast(substr(g.value, 1, instr(g.value, '..') - 1) as integer) - 1 end*/
+            /*postgresql else split_part(g.value, '..', 1)::bigint - 1 end*/ as last_number
+    from session s,
+        /*sqlite json_each('["' || replace(ltrim(s.gaps || ' -'), ' ', '","') || '"]') g*/
+        /*postgresql lateral unnest(string_to_array(ltrim(s.gaps || ' -'), ' ')) with ordinality as g(value, place)*/
+    where s.events > 0;
 
 -- Each transaction of an EVSE beside the one before it, of those that have readings: when that was over, and what its
 -- register read last.

@@ -19,3 +19,5 @@ create table connection (
 );
 create index connection_since on connection (since);
 create index change_at on change (at);
+-- How many transactions a station has open.
+create index session_open on session (station) where ended is null;

@@ -9,12 +9,14 @@ from typing import Any, NamedTuple
 
 from ocpp_board.errors import StoreError
 from ocpp_board.records import Line
-from ocpp_board.store.database import Database, Row, choose
+from ocpp_board.store.database import Database, Row, SqliteDatabase
 
 SESSION = """lines evse events voided first_number last_number complete missing gaps up down export_up export_down state
 began ended first_at last_at first_register last_register first_export_register last_export_register stopped_reason
 sent_id token token_type remote_start_id signed holes reading_moments boundary_moments first_boundary_at
 received_until""".split()
+# The columns of a line, in the order of `records.Line`.
+LINE = "station transaction_id number line received who why origin".split()
 PART = "starts up down export_up export_down on_board measured shared numbers_missing".split()
 FINDING = "kind times first_at detail".split()
 OF_SESSION = "station = :station and transaction_id = :transaction"
@@ -149,7 +151,8 @@ def hold_sessions(
     store: Database, sites: dict[Key, str], warm: "Warm | None" = None
 ) -> dict[Key, Held]:
     """Holds transactions up to the end of the database transaction, in the order of their keys, and gives what is
-    stored of them. `sites`: those of the ones that are not stored; `warm`: what this process stored last."""
+    stored of them. `sites`: those of the ones that are not stored; `warm`: what this process stored last.
+    """
     keys = sorted(sites)
     if store.kind == "postgresql" and keys:
         store.execute(
@@ -195,11 +198,14 @@ def read_lines(store: Database, keys: Sequence[Key]) -> Iterable[list[Line]]:
 
 def read_refusals(store: Database, keys: Sequence[Key]) -> Iterable[list[Row]]:
     """What was refused of each of these transactions and matters to its rows."""
-    columns, more = "cause, digest, number, text, times", "and cause in ('ConflictingEvent', 'Untaken')"
+    columns, more = (
+        "cause, digest, number, text, times",
+        "and cause in ('ConflictingEvent', 'Untaken')",
+    )
     return fetch_keyed(store, columns, "refusal", keys, more)
 
 
-# What a process stored last --------------------------------------------------------------------------------------------
+# What a process stored last ---------------------------------------------------------------------------------------
 
 
 @dataclass(slots=True)
@@ -248,7 +254,7 @@ class Warm:
             self.drop(next(iter(self.kept)))
 
 
-# Writing ----------------------------------------------------------------------------------------------------------------
+# Writing -----------------------------------------------------------------------------------------------------------
 
 
 class Writer:
@@ -258,7 +264,7 @@ class Writer:
         """`keeps`: what is written is kept, too."""
         self.store, self.keeps = store, keeps
         self.at = datetime.now(timezone.utc)
-        self.lines: list[dict[str, Any]] = []
+        self.lines: list[tuple[Any, ...]] = []
         self.sessions: list[dict[str, Any]] = []
         self.rows: dict[Key, tuple[Held, list[dict[str, Any]], list[dict[str, Any]]]] = {}
         self.empty: list[Key] = []
@@ -276,12 +282,7 @@ class Writer:
     ) -> None:
         """Collects the accepted lines of a transaction, and its rows."""
         front = {"station": key[0], "transaction_id": key[1]}
-        for line in accepted:
-            self.lines.append(
-                front
-                | {"number": line.number, "received": line.received, "line": line.text}
-                | {"who": line.who, "origin": line.origin, "why": line.why}
-            )
+        self.lines += [(*key, *line) for line in accepted]
         session = {name: clean_text(value) for name, value in session.items()}
         self.sessions.append(front | {"site": held.site, "changed_at": self.at} | session)
         self.rows[key] = held, parts, findings
@@ -304,7 +305,8 @@ class Writer:
         """Writes what was collected."""
         if self.lines:
             insert_lines(self.store, self.lines)
-        write_each(self.store, "session", KEYS, ["site", *SESSION, "changed_at"], self.sessions)
+        columns = ["site", *SESSION, "changed_at"]
+        write_each(self.store, "session", KEYS, columns, self.sessions, compared=SESSION)
         unknown = sorted(key for key, (held, _, _) in self.rows.items() if held.kept is None)
         for table, columns, place in (("part", PART, 1), ("finding", FINDING, 2)):
             had = dict(zip(unknown, fetch_keyed(self.store, ", ".join(columns), table, unknown)))
@@ -324,17 +326,17 @@ class Writer:
         self.lines, self.sessions, self.rows, self.empty = [], [], {}, []
 
 
-def insert_lines(store: Database, rows: Sequence[dict[str, Any]]) -> None:
-    """Adds lines; one that is there fails."""
-    if store.kind == "sqlite":
-        store.insert_each("line", rows)
+def insert_lines(store: Database, rows: Sequence[tuple[Any, ...]]) -> None:
+    """Adds lines, each with the values of LINE; one that is there fails."""
+    names = ", ".join(LINE)
+    if isinstance(store, SqliteDatabase):
+        store.insert_rows(f"insert into line ({names}) values ({', '.join('?' * len(LINE))})", rows)
         return
     # PostgreSQL has a type `line` of its own, so the table's can't be named here.
-    names = ", ".join(rows[0])
     store.execute(
         f"""insert into line ({names}) select {names} from json_to_recordset(:rows) as r (station text,
         transaction_id text, number int, received timestamptz, line text, who text, origin text, why text)""",
-        rows=json.dumps(rows, default=datetime.isoformat),
+        rows=json.dumps([dict(zip(LINE, row)) for row in rows], default=datetime.isoformat),
     )
 
 
@@ -351,18 +353,24 @@ def write_each(
     keys: Sequence[str],
     columns: Sequence[str],
     rows: Sequence[dict[str, Any]],
+    compared: Sequence[str] = (),
 ) -> None:
-    """Inserts rows, or writes their other columns where they are there."""
+    """Inserts rows, or writes their other columns where they are there. `compared`: the columns of which one has to
+    differ for that."""
     if not rows:
         return
+    where = ""
+    if compared:
+        had, has = (", ".join(f"{of}.{name}" for name in compared) for of in (table, "excluded"))
+        where = f" where ({had}) is distinct from ({has})"
     if store.kind == "sqlite":
-        store.execute_each(insert_text(table, keys, columns), rows)
+        store.execute_each(insert_text(table, keys, columns) + where, rows)
         return
     names = ", ".join([*keys, *columns])
     changes = ", ".join(f"{name} = excluded.{name}" for name in columns)
     store.execute(
         f"""insert into {table} ({names}) select {names} from json_populate_recordset(null::{table}, :rows)
-        on conflict ({', '.join(keys)}) do update set {changes}""",
+        on conflict ({', '.join(keys)}) do update set {changes}{where}""",
         rows=json.dumps(rows, default=datetime.isoformat),
     )
 

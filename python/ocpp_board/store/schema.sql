@@ -136,6 +136,7 @@ create table session (
     primary key (station, transaction_id)
 ) /*postgresql partition by hash (station)*/;
 create index session_site on session (site, station);
+create index session_changed on session (changed_at);
 create index session_time on session (station, evse, first_at);
 create index session_site_first on session (site, first_at);
 create index session_site_last on session (site, last_at, first_at);

@@ -27,7 +27,9 @@ CONNECT = f"""
 insert into connection (station, gateway, number, since) values (:station, :gateway, :number, {NOW})
 on conflict (station) do update set gateway = excluded.gateway, number = excluded.number, since = excluded.since
 """
-CONNECTED = "select station, gateway, number from connection where since > :since and gateway <> :gateway"
+CONNECTED = (
+    "select station, gateway, number from connection where since > :since and gateway <> :gateway"
+)
 CHANGED = "select id, name from change where at > :since and what in ('station', 'password')"
 SEE = "update password set seen_at = :now where station = :station and hash = :hash and seen_at is null"
 HAS = "select 1 as one from password where station = :station and hash = :hash"
@@ -107,7 +109,9 @@ def look_for_changes(
 
 def count_passwords(store: Database, station: str) -> str:
     """How many passwords a station has, as JSON."""
-    (row,) = store.fetch("select count(*) as n from password where station = :station", station=station)
+    (row,) = store.fetch(
+        "select count(*) as n from password where station = :station", station=station
+    )
     return json.dumps({"passwords": row.n})
 
 
@@ -115,9 +119,7 @@ def require_station(store: Database, station: str) -> None:
     """Raises InputError where the plan has no such station."""
     row = store.fetch_one("select until from station where station = :station", station=station)
     if row is None or row.until is not None:
-        raise InputError(
-            f"the plan has no station {station!r}; add it by `ocpp-board plan`"
-        )
+        raise InputError(f"the plan has no station {station!r}; add it by `ocpp-board plan`")
 
 
 def set_password(
@@ -139,6 +141,47 @@ def set_password(
         )
         store.execute(
             "insert into password (station, hash, salt, cost, set_at) values (:station, :hash, :salt, :cost, :at)",
-            **{"station": station, "hash": made.hash, "salt": made.salt, "cost": made.cost, "at": now()},
+            **{
+                "station": station,
+                "hash": made.hash,
+                "salt": made.salt,
+                "cost": made.cost,
+                "at": now(),
+            },
         )
         note_change(store, author, "password", station, before, count_passwords(store, station))
+
+
+def write_quota(
+    store: Database, site: str, author: Author, most_open: int | None, most_bytes: int | None
+) -> tuple[int, int]:
+    """Sets the quotas of a site that are named, and gives both. Raises InputError."""
+    asked = "select most_open, most_bytes from site where site = :site"
+    with store.transaction():
+        had = store.fetch_one(asked, site=site)
+        if had is None:
+            raise InputError(f"plan quota: there is no site {site!r}; add it first")
+        quota = (
+            had.most_open if most_open is None else most_open,
+            had.most_bytes if most_bytes is None else most_bytes,
+        )
+        store.execute(
+            "update site set most_open = :open, most_bytes = :bytes where site = :site",
+            **{"site": site, "open": quota[0], "bytes": quota[1]},
+        )
+        before, after = (
+            json.dumps(dict(zip(("most_open", "most_bytes"), one)))
+            for one in ((had.most_open, had.most_bytes), quota)
+        )
+        note_change(store, author, "site", site, before, after)
+    return quota
+
+
+def read_figures(store: Database) -> tuple[int, dict[str, float]]:
+    """For who watches: how many messages are of stations that no site has, and seconds since each site's last closing,
+    of those that were closed once."""
+    (row,) = store.fetch("select count(*) as n from stray")
+    if not store.has_table("closing"):
+        return row.n, {}
+    rows = store.fetch("select site, max(at) as closed_at from closing group by site")
+    return row.n, {one.site: (now() - one.closed_at).total_seconds() for one in rows}

@@ -3,34 +3,31 @@
 
 -- The figures of each station and site where it has transactions, or where it is planned, as a board's total line.
 create view board_station as
-    select k.site, k.station,
-        cast(coalesce(sum(s.events), 0) as bigint) as events,
-        cast(coalesce(sum(s.voided), 0) as bigint) as voided,
-        cast(coalesce(sum(case when s.events > 0 then 1 else 0 end), 0) as bigint) as transactions,
-        cast(coalesce(sum(case when s.complete then 1 else 0 end), 0) as bigint) as complete_transactions,
-        cast(coalesce(sum(s.missing), 0) as bigint) as missing,
-        cast(coalesce(sum(s.up), 0) as bigint) as up,
-        cast(coalesce(sum(s.down), 0) as bigint) as down,
-        cast(coalesce(sum(s.export_up), 0) as bigint) as export_up,
-        cast(coalesce(sum(s.export_down), 0) as bigint) as export_down
-    from (select site, station from station union select site, station from session) k
-    left join session s on s.station = k.station and s.site = k.site
-    group by k.site, k.station;
+    select site, station,
+        cast(sum(events) as bigint) as events, cast(sum(voided) as bigint) as voided,
+        cast(sum(case when events > 0 then 1 else 0 end) as bigint) as transactions,
+        cast(sum(case when complete then 1 else 0 end) as bigint) as complete_transactions,
+        cast(sum(missing) as bigint) as missing,
+        cast(sum(up) as bigint) as up, cast(sum(down) as bigint) as down,
+        cast(sum(export_up) as bigint) as export_up, cast(sum(export_down) as bigint) as export_down
+    from session group by site, station
+    union all
+    select t.site, t.station, 0, 0, 0, 0, 0, 0, 0, 0, 0 from station t
+    where not exists (select 1 from session s where s.site = t.site and s.station = t.station);
 
--- The figures of each site: the sums over its stations.
+-- The figures of each site: the sums over its transactions.
 create view board_site as
-    select s.site,
-        cast(coalesce(sum(b.events), 0) as bigint) as events,
-        cast(coalesce(sum(b.voided), 0) as bigint) as voided,
-        cast(coalesce(sum(b.transactions), 0) as bigint) as transactions,
-        cast(coalesce(sum(b.complete_transactions), 0) as bigint) as complete_transactions,
-        cast(coalesce(sum(b.missing), 0) as bigint) as missing,
-        cast(coalesce(sum(b.up), 0) as bigint) as up,
-        cast(coalesce(sum(b.down), 0) as bigint) as down,
-        cast(coalesce(sum(b.export_up), 0) as bigint) as export_up,
-        cast(coalesce(sum(b.export_down), 0) as bigint) as export_down
-    from site s left join board_station b on b.site = s.site
-    group by s.site;
+    select site,
+        cast(sum(events) as bigint) as events, cast(sum(voided) as bigint) as voided,
+        cast(sum(case when events > 0 then 1 else 0 end) as bigint) as transactions,
+        cast(sum(case when complete then 1 else 0 end) as bigint) as complete_transactions,
+        cast(sum(missing) as bigint) as missing,
+        cast(sum(up) as bigint) as up, cast(sum(down) as bigint) as down,
+        cast(sum(export_up) as bigint) as export_up, cast(sum(export_down) as bigint) as export_down
+    from session group by site
+    union all
+    select i.site, 0, 0, 0, 0, 0, 0, 0, 0, 0 from site i
+    where not exists (select 1 from session s where s.site = i.site);
 
 -- The energy of each EVSE of a station; EVSE 0 is that of transactions that name none.
 create view board_evse as
@@ -53,19 +50,25 @@ create view evse_period as
 
 -- The energy of each settlement period of a station, as its board shows them.
 create view board_period as
-    select site, station, starts,
-        cast(sum(up) as bigint) as up, cast(sum(down) as bigint) as down,
-        cast(sum(export_up) as bigint) as export_up, cast(sum(export_down) as bigint) as export_down,
-        max(estimated) as estimated, cast(sum(shared) as bigint) as shared, max(lacks_numbers) as lacks_numbers
-    from evse_period where shown = 1 group by site, station, starts;
+    select s.site, p.station, p.starts,
+        cast(sum(p.up) as bigint) as up, cast(sum(p.down) as bigint) as down,
+        cast(sum(p.export_up) as bigint) as export_up, cast(sum(p.export_down) as bigint) as export_down,
+        max(case when p.measured then 0 else 1 end) as estimated,
+        cast(coalesce(sum(p.shared), 0) as bigint) as shared,
+        max(case when p.numbers_missing then 1 else 0 end) as lacks_numbers
+    from part p join session s on s.station = p.station and s.transaction_id = p.transaction_id
+    group by s.site, p.station, p.starts having max(case when p.on_board then 1 else 0 end) = 1;
 
 -- The energy of each settlement period of a site, as its board shows them.
 create view board_site_period as
-    select site, starts,
-        cast(sum(up) as bigint) as up, cast(sum(down) as bigint) as down,
-        cast(sum(export_up) as bigint) as export_up, cast(sum(export_down) as bigint) as export_down,
-        max(estimated) as estimated, cast(sum(shared) as bigint) as shared, max(lacks_numbers) as lacks_numbers
-    from board_period group by site, starts;
+    select s.site, p.starts,
+        cast(sum(p.up) as bigint) as up, cast(sum(p.down) as bigint) as down,
+        cast(sum(p.export_up) as bigint) as export_up, cast(sum(p.export_down) as bigint) as export_down,
+        max(case when p.measured then 0 else 1 end) as estimated,
+        cast(coalesce(sum(p.shared), 0) as bigint) as shared,
+        max(case when p.numbers_missing then 1 else 0 end) as lacks_numbers
+    from part p join session s on s.station = p.station and s.transaction_id = p.transaction_id
+    group by s.site, p.starts having max(case when p.on_board then 1 else 0 end) = 1;
 
 -- The energy of each period of an EVSE in kWh, with the day and the time that clocks at the site show at its start.
 create view energy as

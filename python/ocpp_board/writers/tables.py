@@ -80,7 +80,8 @@ Cell = str | int
 @dataclass(frozen=True)
 class TableOptions:
     """What tables have. `tokens`: how drivers' tokens are written; `raw`: texts from outside are there as they are;
-    `all_periods`: periods without energy are there, too; `first`, `last`: the days whose periods are there."""
+    `all_periods`: periods without energy are there, too; `first`, `last`: the days whose periods are there.
+    """
 
     tokens: str = "none"
     raw: bool = False
@@ -189,10 +190,17 @@ class SiteTables:
     """Writes the tables of a site, or those of one of its days."""
 
     def __init__(
-        self, store: Database, out: Path, site: Site, options: TableOptions, day: date | None = None
+        self,
+        store: Database,
+        out: Path,
+        site: Site,
+        options: TableOptions,
+        day: date | None = None,
+        book: "FindingBook | None" = None,
     ) -> None:
-        """`day`: tables have only what began on this day of the site's zone."""
+        """`day`: tables have only what began on this day of the site's zone; `book`: findings that were read before."""
         self.store, self.site, self.options, self.day = store, site, options, day
+        self.book = book or FindingBook(store)
         self.calendar = find_calendar(site.zone)
         self.folder = out / name_file(site.site)
         self.order = "by moment" if site.reading_order == "moment" else "by sequence"
@@ -372,7 +380,8 @@ class SiteTables:
         heads += ["net (kWh)", *ends, "duration (s)", "first register (kWh)", "last register (kWh)"]
         heads += ["first export register (kWh)", "last export register (kWh)", "stopped reason"]
         heads += ["findings", *BILL_HEADS, "readings"]
-        found = group_rows(self.fetch_findings(), lambda row: (row.station, row.transaction_id))
+        findings = self.book.read(self.site.site)
+        found = group_rows(findings, lambda row: (row.station, row.transaction_id))
         rows = self.fetch(
             "select s.*, coalesce(t.place, 0) as place from session s "
             "left join station t on t.station = s.station where s.site = :site and s.events > 0",
@@ -438,20 +447,11 @@ class SiteTables:
 
     # Findings and what changed nothing --------------------------------------------------------------------------------
 
-    def fetch_findings(self) -> list[Row]:
-        """What is doubtful at the site."""
-        return self.store.fetch(
-            "select f.station, f.transaction_id, f.kind, f.times, f.first_at, f.detail, "
-            "coalesce(t.place, 0) as place from all_finding f "
-            "left join station t on t.station = f.station where f.site = :site",
-            site=self.site.site,
-        )
-
     def write_findings(self) -> None:
         """Writes the table of findings: those that make a number wrong, those that lack energy, and the rest. Raises
         OSError."""
         heads = ["site", "station", "transaction", "finding", "times", *self.moment_heads("first")]
-        rows = sorted(self.fetch_findings(), key=rank_finding)
+        rows = sorted(self.book.read(self.site.site), key=rank_finding)
         cells = map(self.write_finding, rows)
         write_csv(self.path("findings"), [*heads, "detail", "meaning", "effect"], cells)
 
@@ -505,6 +505,44 @@ class SiteTables:
         number = "" if row.number is None else str(row.number)
         names = self.site.site, row.station, row.transaction_id, number, row.mends, row.came
         return [write_utc(row.at), *map(self.cell, names)]
+
+
+class FindingBook:
+    """What is doubtful at sites, read once, and again of stations of which something changed."""
+
+    STATEMENT = (
+        "select f.site, f.station, f.transaction_id, f.kind, f.times, f.first_at, f.detail, "
+        "coalesce(t.place, 0) as place from all_finding f "
+        "left join station t on t.station = f.station where f.site = :site"
+    )
+
+    def __init__(self, store: Database) -> None:
+        self.store = store
+        # By site and station.
+        self.sites: dict[str, dict[str, list[Row]]] = {}
+
+    def read(self, site: str) -> list[Row]:
+        """What is doubtful at a site."""
+        known = self.sites.get(site)
+        if known is None:
+            rows = self.store.fetch(self.STATEMENT, site=site)
+            known = self.sites[site] = group_rows(rows, lambda row: row.station)
+        return [row for some in known.values() for row in some]
+
+    def renew(self, site: str, stations: Iterable[str]) -> bool:
+        """Reads again what is doubtful at these stations of a site, and gives whether it is otherwise than before."""
+        known = self.sites.get(site)
+        if known is None:
+            self.read(site)
+            return True
+        is_other = False
+        for station in stations:
+            rows = self.store.fetch(
+                f"{self.STATEMENT} and f.station = :station", site=site, station=station
+            )
+            if sorted(map(str, rows)) != sorted(map(str, known.get(station, []))):
+                known[station], is_other = rows, True
+        return is_other
 
 
 def rank_finding(row: Row) -> tuple[int, int, str, bool, str, int]:
