@@ -152,7 +152,7 @@ def test_a_held_session_is_released_for_the_figures_that_it_has(store: Database)
     operate(store, "void", "register-falls", "t1", 3, FIRST)
     after = read_bills(store)["register-falls"]
     assert before["total_energy"] != after["total_energy"]
-    assert after["hold"] == "held: register falls"
+    assert after["hold"] == "held: negative energy; held: register falls"
 
 
 def test_adjustments_stand_beside_the_ledgers_number(store: Database) -> None:

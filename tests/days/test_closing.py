@@ -33,8 +33,7 @@ def replay(store: Database) -> dict[str, BoardPart]:
     rows = store.fetch("select line from line order by station, transaction_id, number")
     lines += [row.line for row in rows] + [f"board {SITE}"]
     reader = AnswerReader(find_program().answer("\n".join([*lines, ""]).encode()))
-    for _ in rows:
-        reader.read_answer()
+    assert all(one.startswith("accepted ") for one in reader.read_some(len(rows)))
     return reader.read_board().stations
 
 

@@ -96,7 +96,7 @@ def test_an_export_register_is_corrected(store: Database) -> None:
         (Correction("A", "t9", 0, 0, 1), "no transaction 't9' of station 'A'"),
         (Correction("A", "t1", 9, 0, 1), "has no event 9 that counts"),
         (Correction("A", "t1", 1, 1, 1), "has no reading 1 of the import register"),
-        (Correction("A", "t1", 1, 0, -1), "would not take the correction: refused"),
+        (Correction("A", "t1", 1, 0, -1), "would not take the correction: .*Decimal"),
     ],
 )
 def test_what_can_not_be_corrected_is_named(store: Database, wanted: Correction, said: str) -> None:

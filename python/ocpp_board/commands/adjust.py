@@ -26,6 +26,7 @@ from ocpp_board.store.decisions import (
     declare_exchange,
     propose_exchanges,
 )
+from ocpp_board.writers.bills import find_zone, write_signed_kwh
 
 
 def add_words(parser: argparse.ArgumentParser) -> None:
@@ -74,13 +75,14 @@ def declare(store: Database, words: argparse.Namespace) -> Adjustment:
     return declare_estimate(store, words.station, words.transaction, register)
 
 
-def propose(store: Database, site: str) -> None:
+def propose(store: Database, words: argparse.Namespace) -> None:
     """Prints the sessions whose register was reset, and how to adjust them."""
-    for row in propose_exchanges(store, site):
+    find_zone(store, words.site)
+    for row in propose_exchanges(store, words.site):
         print(f"{row.transaction_id} of {row.station}, EVSE {row.evse}: {row.detail}")
         print(
-            f"  ocpp-board adjust credit {row.station} {row.transaction_id} --kwh {kwh(row.down).replace(',', '')} "
-            "--why 'meter exchanged'"
+            f"  ocpp-board adjust --store {words.store} credit {row.station} {row.transaction_id} "
+            f"--kwh {write_signed_kwh(row.down)} --why 'meter exchanged'"
         )
 
 
@@ -88,7 +90,7 @@ def run(words: argparse.Namespace) -> int:
     """Declares an adjustment, or proposes some."""
     with open_store(words.store) as store:
         if words.word == "propose":
-            propose(store, words.site)
+            propose(store, words)
             return Status.DONE
         one = declare(store, words)
         adjust(store, one, read_author(words))

@@ -4,8 +4,8 @@
 
 A row is a settlement period of a metering point: import and export in kWh with three decimals, whose sums are the
 rounded sums, and `measured` or `substitute`. A period is a substitute where the figure is estimated, where an
-adjustment counts in it, or where a finding makes a session in it wrong. Figures are those that closings settled, and adjustments;
---provisional takes those of the boards for a month that is not closed.
+adjustment counts in it, or where a finding makes a session in it wrong. Figures are those that closings settled, and
+adjustments; --provisional takes those of the boards for a month that is not closed.
 
 --points gives the site its metering points, which the store keeps: CSV with the columns code, station and evse. A row
 without a station is the site's own, for all EVSEs that have none.

@@ -10,6 +10,9 @@
     engine      settles texts and operators' lines in a store, and answers them
     scripts     whole scripts of a site's lines
     verify      compares a store's views with the boards of whole scripts
+    corrections  corrects readings: void, erasure and the right message in one step
+    forgetting  takes drivers' tokens out of lines and rows
+    old_sessions  moves old sessions into files
 
-Only `engine` and `verify` know the store. A transaction's figures depend on its own lines only.
+Only `engine` and what is listed behind `scripts` know the store. A transaction's figures depend on its own lines only.
 """

@@ -38,6 +38,13 @@ class Correction:
     where: str = "correct"
 
 
+class Came(NamedTuple):
+    """The text of an event, and when it came."""
+
+    text: str
+    received: datetime | None
+
+
 class Prepared(NamedTuple):
     """A session's corrections: what is to be asked of the ledger, and its rows before and after."""
 
@@ -80,14 +87,9 @@ def prepare_session(
     for number in dict.fromkeys(one.number for one in wanted):
         deed = (station, transaction, number, author.who, author.why, now, f"operator {author.who}")
         asked += [Deed("void", *deed), Deed("erase", *deed)]
-        asked.append(
-            Message(
-                station,
-                texts[number],
-                now,
-                f"corrected by {author.who}: {author.why}",
-            )
-        )
+        # It is as late as the message that it replaces.
+        origin = f"corrected by {author.who}: {author.why}"
+        asked.append(Message(station, texts[number].text, texts[number].received, origin))
     work = Work(station, transaction, row.site, read_rules(row), list(stored), [], [], True)
     new = work._replace(new=[write_line(one) for one in asked])
     had, done = work_out(program, [work, new])
@@ -96,43 +98,42 @@ def prepare_session(
         if answer.outcome != "accepted":
             raise InputError(
                 f"{wanted[0].where}: transaction {transaction} of {station} would not take the correction: "
-                f"{answer.outcome} {answer.name}"
+                f"{answer.name or answer.reply or answer.outcome}"
             )
     return Prepared(station, transaction, asked, had.rows, done.rows)
 
 
-def find_texts(lines: Sequence[Line]) -> dict[int, str]:
-    """The texts of a session's live events, by their numbers."""
-    found, voided = dict[int, str](), set[int]()
+def find_texts(lines: Sequence[Line]) -> dict[int, Came]:
+    """A session's live events, by their numbers."""
+    found, voided = dict[int, Came](), set[int]()
     for line in lines:
         if line.text.startswith(DELIVER):
             text = line.text.split(" ", 2)[2]
-            found[int(JSON.decode(text)[3]["seqNo"])] = text
+            found[int(JSON.decode(text)[3]["seqNo"])] = Came(text, line.received)
             continue
         word, number = line.text.partition(" ")[0], int(line.text.rpartition(" ")[2])
         if word == "void":
             voided.add(number)
-        elif word == "restore":
-            voided.discard(number)
         else:
             voided.discard(number)
+        if word == "erase":
             found.pop(number, None)
-    return {number: text for number, text in found.items() if number not in voided}
+    return {number: came for number, came in found.items() if number not in voided}
 
 
-def correct_text(text: str | None, one: Correction) -> str:
+def correct_text(came: Came | None, one: Correction) -> Came:
     """The corrected text of an event. Raises InputError where there is no such event or reading."""
     name = f"transaction {one.transaction} of {one.station}"
-    if text is None:
+    if came is None:
         raise InputError(f"{one.where}: {name} has no event {one.number} that counts")
-    corrected = correct_reading(text, one.place, one.is_export, one.mwh)
+    corrected = correct_reading(came.text, one.place, one.is_export, one.mwh)
     if corrected is None:
         side = "export" if one.is_export else "import"
         raise InputError(
             f"{one.where}: event {one.number} of {name} has no reading {one.place} of the {side} register; places "
             "begin at 0"
         )
-    return corrected
+    return came._replace(text=corrected)
 
 
 def write_line(one: Asked) -> Line:

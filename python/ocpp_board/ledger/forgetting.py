@@ -63,6 +63,11 @@ select station, digest, text from stray
 where (last_at is null or last_at < :before) and {MAY_HAVE.format('text')}
 """
 WRITE_STRAY = "update stray set text = :text where station = :station and digest = :digest"
+MENDED = f"""
+select station, digest, came as text from mended
+where (at is null or at < :before) and {MAY_HAVE.format('came')}
+"""
+WRITE_MENDED = "update mended set came = :text where station = :station and digest = :digest"
 
 
 class Wanted(NamedTuple):
@@ -219,15 +224,16 @@ def leave_tokens(rows: Rows, is_signed: bool) -> Rows:
 
 
 def write_texts(store: Database, wanted: Wanted, found: Forgotten) -> None:
-    """Empties refused texts and strays."""
-    refusals, strays = list[dict[str, str]](), list[dict[str, str]]()
-    for row in store.fetch(REFUSALS, before=wanted.before):
-        if (text := wanted.empty(row.text)) != row.text:
-            key = {"station": row.station, "cause": row.cause, "digest": row.digest}
-            refusals.append(key | {"text": text})
-    for row in store.fetch(STRAYS, before=wanted.before):
-        if (text := wanted.empty(row.text)) != row.text:
-            strays.append({"station": row.station, "digest": row.digest, "text": text})
-    store.execute_each(WRITE_REFUSAL, refusals)
-    store.execute_each(WRITE_STRAY, strays)
-    found.texts += len(refusals) + len(strays)
+    """Empties refused texts, strays, and mended messages as they came."""
+    for asked, write, key in (
+        (REFUSALS, WRITE_REFUSAL, ("station", "cause", "digest")),
+        (STRAYS, WRITE_STRAY, ("station", "digest")),
+        (MENDED, WRITE_MENDED, ("station", "digest")),
+    ):
+        emptied = [
+            {name: getattr(row, name) for name in key} | {"text": text}
+            for row in store.fetch(asked, before=wanted.before)
+            if (text := wanted.empty(row.text)) != row.text
+        ]
+        store.execute_each(write, emptied)
+        found.texts += len(emptied)

@@ -10,13 +10,10 @@ import zipfile
 from collections.abc import Iterator, Sequence
 from dataclasses import dataclass
 from datetime import datetime, timezone
-from itertools import groupby
-from operator import attrgetter
 from pathlib import Path
 
 from ocpp_board.errors import UsageError
-from ocpp_board.ledger.rows import count_readings
-from ocpp_board.limits import GREATEST_LIMITS
+from ocpp_board.ledger.scripts import part_scripts, write_line
 from ocpp_board.records import Rules
 from ocpp_board.store.database import Database, Row
 from ocpp_board.store.plan import find_rules
@@ -33,21 +30,13 @@ where s.site = :site and t.state <> 'provisional' and s.last_at < :before
 order by s.station, s.transaction_id
 """
 OWN_LINES = """
-select line from line where station = :station and transaction_id = :transaction_id order by number
+select station, transaction_id, line from line
+where station = :station and transaction_id = :transaction_id order by number
 """
-# What the store has of a session, by its tables, in the order in which they are removed.
+# The tables that have something of a session, in the order in which it is removed.
 TABLES = (
-    *(
-        "part",
-        "finding",
-        "closed_part",
-        "closed_session",
-        "adjustment",
-        "release",
-        "rule_settled",
-        "deed",
-    ),
-    *("refusal", "line", "session"),
+    *("part", "finding", "closed_part", "closed_session", "adjustment", "release", "rule_settled"),
+    *("deed", "refusal", "mended", "line", "session"),
 )
 OWN = "station = :station and transaction_id = :transaction_id"
 LOCK = f"select lines from session where {OWN} for update"
@@ -109,9 +98,9 @@ def write_file(store: Database, site: str, sessions: Sequence[Row], path: Path) 
     try:
         with open(fresh, "wb") as file:
             with zipfile.ZipFile(file, "w", zipfile.ZIP_DEFLATED) as packed:
-                for station, own in groupby(sessions, attrgetter("station")):
-                    for number, script in enumerate(write_scripts(store, site, rules, own), 1):
-                        packed.writestr(f"{station}.{number}.script", script)
+                scripts = part_scripts(read_lines(store, sessions), write_line)
+                for number, script in enumerate(scripts, 1):
+                    packed.writestr(f"{number}.script", script.write(site, rules))
                 for table in TABLES:
                     write_table(store, table, sessions, packed)
             file.flush()
@@ -126,46 +115,15 @@ def write_file(store: Database, site: str, sessions: Sequence[Row], path: Path) 
         os.close(holder)
 
 
-def write_scripts(
-    store: Database, site: str, rules: Rules, sessions: Iterator[Row]
-) -> Iterator[bytes]:
-    """The lines of a station's sessions as scripts, each with as many as a station of a script may keep."""
-    most, lines, events, readings, count = GREATEST_LIMITS, list[str](), 0, 0, 0
+def read_lines(store: Database, sessions: Sequence[Row]) -> Iterator[Row]:
+    """The lines of sessions."""
     for one in sessions:
-        own = [
-            # A script's reader drops one carriage return before a line feed: the message's own stays.
-            row.line + "\r" if row.line.endswith("\r") else row.line
-            for row in store.fetch(
-                OWN_LINES, station=one.station, transaction_id=one.transaction_id
-            )
-        ]
-        more = sum(map(count_readings, own))
-        if lines and (
-            count == most["transactions"]
-            or events + len(own) > most["events"]
-            or readings + more > most["readings"]
-        ):
-            yield write_script(site, rules, lines)
-            lines, events, readings, count = [], 0, 0, 0
-        if not lines:
-            lines = [f"station {site} {one.station}"]
-        lines += own
-        events, readings, count = events + len(own), readings + more, count + 1
-    if lines:
-        yield write_script(site, rules, lines)
+        yield from store.fetch(OWN_LINES, **name_key(one))
 
 
-def write_script(site: str, rules: Rules, lines: Sequence[str]) -> bytes:
-    """A script of a station: its first line declares it, the others are the station's own."""
-    most = GREATEST_LIMITS
-    head = [
-        f"limits {most['transactions']} {most['events']} {most['readings']} {most['changes']}",
-        lines[0],
-        f"period {site} {rules.period}",
-        f"order {site} {rules.order}",
-        f"settle {site} {rules.settle}",
-    ]
-    return ("\n".join([*head, *lines[1:], f"board {site}"]) + "\n").encode()
+def name_key(one: Row) -> dict[str, str]:
+    """The key of a session as values of statements."""
+    return {"station": one.station, "transaction_id": one.transaction_id}
 
 
 def write_table(
@@ -174,12 +132,7 @@ def write_table(
     """Writes the rows of a table that are of these sessions."""
     text, writer = io.StringIO(), None
     for one in sessions:
-        rows = store.fetch(
-            f"select * from {table} where {OWN}",
-            station=one.station,
-            transaction_id=one.transaction_id,
-        )
-        for row in rows:
+        for row in store.fetch(f"select * from {table} where {OWN}", **name_key(one)):
             if writer is None:
                 writer = csv.writer(text, lineterminator="\n")
                 writer.writerow(row._fields)
@@ -190,7 +143,7 @@ def write_table(
 
 def remove(store: Database, site: str, one: Row, path: Path) -> bool:
     """Removes a session from the tables, if it is the one that was written. Whether it did."""
-    key = {"station": one.station, "transaction_id": one.transaction_id}
+    key = name_key(one)
     row = store.fetch_one(LOCK if store.kind == "postgresql" else LINES, **key)
     if row is None or row.lines != one.lines:
         return False

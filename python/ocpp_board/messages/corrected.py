@@ -42,4 +42,5 @@ def write_value(unit: dict[str, Any], mwh: int, mark: str) -> str:
     """A reading in its unit, exactly. `mark`: what a number of the message begins with."""
     power = UNITS.get(unit.get("unit") or "", WH)
     power += int(str(unit.get("multiplier") or "0").removeprefix(mark))
-    return f"{Decimal(mwh).scaleb(-power, EXACT):f}"
+    text = f"{Decimal(mwh).scaleb(-power, EXACT):f}"
+    return text.rstrip("0").rstrip(".") if "." in text else text

@@ -4,5 +4,7 @@
     schema.sql  the tables, once for both
     views.sql   the boards and what is asked of them, once for both
     plan        sites and stations, and who changed them
+    closing     what closings froze, and what they corrected (days.sql, days_views.sql)
+    decisions   adjustments, releases, and sessions settled by rule
     lines       the statements by which the engine reads and writes lines and rows
 """

@@ -68,8 +68,8 @@ create table rule_settled (
     primary key (station, transaction_id)
 );
 
--- A declared fact beside the ledger's number: a meter that was exchanged or rolled over, a session closed by estimate, a
--- credit. `at`: the moment that it counts at.
+-- A declared fact beside the ledger's number: a meter that was exchanged or rolled over, a session closed by estimate,
+-- a credit. `at`: the moment that it counts at.
 create table adjustment (
     station text /*postgresql collate "C"*/ not null,
     number bigint not null,

@@ -6,7 +6,7 @@ create view settled_period as
 select p.site, p.station, p.starts, cast(sum(p.up) as bigint) as up, cast(sum(p.down) as bigint) as down,
     cast(sum(p.export_up) as bigint) as export_up, cast(sum(p.export_down) as bigint) as export_down,
     cast(sum(p.up - p.down - p.export_up + p.export_down) as bigint) as net,
-    case when sum(p.estimated) = 0 then 'yes' else 'no' end as measured,
+    sum(p.estimated) = 0 as measured,
     count(distinct case when p.starts < o.until then p.closing end) as corrections, max(p.closing) as closing
 from closed_part p left join closing o on o.site = p.site and o.closing = p.closing - 1
 group by p.site, p.station, p.starts
@@ -21,11 +21,12 @@ where c.settled is not null and not exists (
     select 1 from closed_session l
     where l.station = c.station and l.transaction_id = c.transaction_id and l.closing > c.closing);
 
--- The state of each session: provisional (no closing settled it, or a line came since), settled, or corrected (a later
--- closing settled another figure). `settled`: 'complete', by 'rule', or null.
+-- The state of each session: provisional (no closing settled it, or a line came or its figures changed since), settled,
+-- or corrected (a later closing settled another figure). `settled`: 'complete', by 'rule', or null.
 create view session_state as
 select s.site, s.station, s.transaction_id,
-    case when l.settled is null or l.lines <> s.lines then 'provisional'
+    case when l.settled is null or l.lines <> s.lines or l.up <> s.up or l.down <> s.down
+            or l.export_up <> s.export_up or l.export_down <> s.export_down then 'provisional'
         when exists (
             select 1 from closed_session b
             where b.station = s.station and b.transaction_id = s.transaction_id and b.settled is not null
@@ -67,7 +68,8 @@ from session s left join (
     from adjustment group by station, transaction_id) a
     on a.station = s.station and a.transaction_id = s.transaction_id;
 
--- Why a session is not billed before somebody looked at it: a finding by which its energy is wrong, or an energy below 0.
+-- Why a session is not billed before somebody looked at it: a finding by which its energy is wrong, or an energy below
+-- 0.
 -- `released_by` and `why`: who released it, for the figures that it has; empty while it is held.
 create view hold as
 select h.site, h.station, h.transaction_id, h.kind, h.detail, coalesce(r.who, '') as released_by,
@@ -89,12 +91,12 @@ left join release r on r.station = h.station and r.transaction_id = h.transactio
         where l.station = h.station and l.transaction_id = h.transaction_id and l.kind = h.kind);
 
 -- A session as a bill has it: its energy by the ledger, the adjustments and their sum, its state, how many findings and
--- how many holds it has. `measured`: 'no' where it has no two moments with a reading.
+-- how many holds it has. `measured`: whether two moments have a reading.
 create view bill as
 select s.site, s.station, s.transaction_id, s.sent_id, s.evse, s.began, s.ended,
     coalesce(s.began, s.first_at) as at, s.complete, s.missing, a.imported, a.exported, a.adjusted_import,
     a.adjusted_export, a.import_sum, a.export_sum, a.adjustments, t.state, t.settled,
-    case when s.reading_moments < 2 then 'no' else 'yes' end as measured,
+    s.reading_moments > 1 as measured,
     coalesce(f.times, 0) as findings, coalesce(h.times, 0) as holds
 from session s
 join adjusted_session a on a.station = s.station and a.transaction_id = s.transaction_id

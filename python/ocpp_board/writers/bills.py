@@ -142,7 +142,7 @@ def write_row(row: Row, notes: Notes, details: Details, tokens: str) -> list[str
         row.state,
         *map(csv_cell, cells_of(row.sent_id, (details,), tokens)),
         row.settled or "",
-        row.measured,
+        "yes" if row.measured else "no",
         write_signed_kwh(row.import_sum),
         write_signed_kwh(row.export_sum),
         csv_cell("; ".join(notes.adjustments)),
