@@ -5,10 +5,12 @@ import io
 import zipfile
 from datetime import datetime, timedelta, timezone
 from pathlib import Path
+from typing import Any
 
 import pytest
 
 from ocpp_board.errors import UsageError
+from ocpp_board.ledger import forgetting, old_sessions
 from ocpp_board.ledger.answers import AnswerReader
 from ocpp_board.ledger.engine import settle
 from ocpp_board.ledger.forgetting import Wanted, forget_tokens
@@ -188,6 +190,10 @@ def test_old_sessions_become_files_that_replay(store: Database, tmp_path: Path) 
     assert verify(store).difference == ""
     assert close_day(store, SITE, None, "jo", read_noon("2026-12-01")).number is None
     assert store.fetch("select 1 as one from correction") == []
+    # What comes for it later is held.
+    send(store, "A", [sound("old", FIRST)[1]])
+    (row,) = store.fetch("select kind, detail from hold where transaction_id = 'old'")
+    assert tuple(row) == ("earlier lines are in a file", f"{SITE}.before-2026-03-02.zip")
 
 
 def test_what_is_not_settled_stays(store: Database, tmp_path: Path) -> None:
@@ -225,3 +231,55 @@ def test_wrong_words_have_a_named_error(tmp_path: Path, words: list[str], said: 
     made = run("forget", "--store", str(tmp_path / "a.db"), *words)
     assert (made.returncode, made.stdout) == (2, "")
     assert said in made.stderr
+
+
+def test_a_session_whose_figures_would_change_keeps_its_lines(
+    store: Database, monkeypatch: pytest.MonkeyPatch
+) -> None:
+    send(store, "A", give_token(sound("t1", FIRST), "Ab12"), give_token(sound("t2", FIRST), "Ab12"))
+    empty = forgetting.empty_line
+
+    def spoil(line: str, *words: Any) -> str:
+        return empty(line, *words).replace('"t1"},"evse":{"id":1}', '"t1"},"evse":{"id":2}')
+
+    monkeypatch.setattr(forgetting, "empty_line", spoil)
+    before = store.fetch("select line from line where transaction_id = 't1' order by number")
+    found = forget_tokens(store, find_program(), Wanted())
+    assert (found.sessions, len(found.kept)) == (1, 1)
+    assert found.kept[0].startswith("t1 of A: its figures would change")
+    after = store.fetch("select line from line where transaction_id = 't1' order by number")
+    assert before == after
+    assert [row.token for row in store.fetch("select token from session order by 1")] == [
+        "",
+        "Ab12",
+    ]
+
+
+def test_a_move_that_ended_midway_is_done_by_the_next_one(
+    store: Database, tmp_path: Path, monkeypatch: pytest.MonkeyPatch
+) -> None:
+    send(store, "A", sound("t1", FIRST), sound("t2", FIRST + timedelta(hours=3)))
+    close_day(store, SITE, None, "jo", read_noon("2026-12-01"))
+    before, remove, calls = datetime(2026, 3, 2, tzinfo=timezone.utc), old_sessions.remove, [0]
+
+    def fail(*words: Any) -> bool:
+        calls[0] += 1
+        if calls[0] == 2:
+            raise OSError("the disk is full")
+        return remove(*words)
+
+    monkeypatch.setattr(old_sessions, "AT_ONCE", 1)
+    monkeypatch.setattr(old_sessions, "remove", fail)
+    with pytest.raises(OSError):
+        list(move_old(store, before, tmp_path))
+    assert [row.transaction_id for row in store.fetch("select * from session")] == ["t2"]
+    assert verify(store).difference == ""
+    (moved,) = move_old(store, before, tmp_path)
+    assert (moved.sessions, moved.stayed) == (1, 0)
+    assert store.fetch("select * from session") == []
+    names = ["north.before-2026-03-02.zip", "north.before-2026-03-02.2.zip"]
+    rows = store.fetch("select file from exported_session order by transaction_id")
+    assert [row.file for row in rows] == names
+    for name, sessions in zip(names, (2, 1)):
+        with zipfile.ZipFile(tmp_path / name) as packed:
+            assert len(packed.read("session.csv").splitlines()) == sessions + 1

@@ -58,8 +58,13 @@ def draw_deeds(draw: random.Random, store: Database, day: int) -> list[Asked]:
     return [
         Deed(
             draw.choice(["void", "void", "restore"]),
-            *(row.station, row.transaction_id, draw.randint(0, row.last_number)),
-            *("jo", "drawn", at, f"drawn {place}"),
+            row.station,
+            row.transaction_id,
+            draw.randint(0, row.last_number),
+            "jo",
+            "drawn",
+            at,
+            f"drawn {place}",
         )
         for place, row in enumerate(draw.sample(rows, min(3, len(rows))))
     ]

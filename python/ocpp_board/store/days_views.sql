@@ -68,8 +68,8 @@ from session s left join (
     from adjustment group by station, transaction_id) a
     on a.station = s.station and a.transaction_id = s.transaction_id;
 
--- Why a session is not billed before somebody looked at it: a finding by which its energy is wrong, or an energy below
--- 0.
+-- Why a session is not billed before somebody looked at it: a finding by which its energy is wrong, an energy below
+-- 0, or lines that left for a file before.
 -- `released_by` and `why`: who released it, for the figures that it has; empty while it is held.
 create view hold as
 select h.site, h.station, h.transaction_id, h.kind, h.detail, coalesce(r.who, '') as released_by,
@@ -83,7 +83,11 @@ from (
     union all
     select s.site, s.station, s.transaction_id, 'negative energy', '', s.up, s.down, s.export_up, s.export_down
     from session s join adjusted_session a on a.station = s.station and a.transaction_id = s.transaction_id
-    where a.import_sum < 0 or a.export_sum < 0) h
+    where a.import_sum < 0 or a.export_sum < 0
+    union all
+    select s.site, s.station, s.transaction_id, 'earlier lines are in a file', e.file, s.up, s.down, s.export_up,
+        s.export_down
+    from session s join exported_session e on e.station = s.station and e.transaction_id = s.transaction_id) h
 left join release r on r.station = h.station and r.transaction_id = h.transaction_id and r.kind = h.kind
     and r.up = h.up and r.down = h.down and r.export_up = h.export_up and r.export_down = h.export_down
     and r.at = (
