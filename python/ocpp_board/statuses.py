@@ -1,4 +1,4 @@
-"""How a tool ends: its exit statuses, the fault that ends it, and the one place where faults become statuses."""
+"""How a command ends: its exit statuses, and the one place where faults become statuses."""
 
 import logging
 import os
@@ -12,7 +12,7 @@ log = logging.getLogger(__name__)
 
 
 class Status(IntEnum):
-    """The exit statuses of all tools."""
+    """The exit statuses of all commands."""
 
     DONE = 0
     # Something was reported: a line that was not taken, a board that is not whole, a mistake of a script.
@@ -22,17 +22,13 @@ class Status(IntEnum):
     INTERRUPTED = 130
 
 
-class Mistaken(Exception):
-    """What is wrong with the words or with a file that they name, in one sentence."""
-
-
 def drop_output() -> None:
     """Gives up what standard output did not take, which would be tried again when the program ends."""
     os.dup2(os.open(os.devnull, os.O_WRONLY), sys.stdout.fileno())
 
 
 def ended(work: Callable[[], int]) -> int:
-    """Does a tool's work and gives its status; a fault of files or words is reported, a reader who left is not."""
+    """Does a command's work and gives its status; a fault of files or words is reported, a reader who left is not."""
     try:
         status = work()
         sys.stdout.flush()
@@ -41,7 +37,7 @@ def ended(work: Callable[[], int]) -> int:
         return Status.INTERRUPTED
     except BrokenPipeError:
         drop_output()
-    except (OSError, UnicodeDecodeError, Mistaken) as fault:
+    except (OSError, UnicodeDecodeError) as fault:
         log.error("%s", fault)
         drop_output()
     except OcppBoardError as fault:

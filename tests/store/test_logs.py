@@ -10,7 +10,7 @@ from typing import Any
 
 import pytest
 
-from ocpp_board.commands.log_to_script import Conversion, arguments, convert, share_stations
+from ocpp_board.commands.log_to_script import Conversion, convert, share_stations
 from ocpp_board.errors import UsageError
 from ocpp_board.messages.texts import Refused
 from ocpp_board.progress import Progress
@@ -30,6 +30,7 @@ from ocpp_board.sources.log import read_moment
 from ocpp_board.sources.script import write_moment
 from ocpp_board.sources.stations import read_pairs
 from ocpp_board.statuses import Status
+from tests.store.converting import read_words
 
 HEARTBEAT = '[2,"1","Heartbeat",{}]'
 
@@ -242,7 +243,7 @@ def script_of(log: list[str], folder: Path, *words: str) -> tuple[str, dict[str,
     (folder / "log").write_text("".join(line + "\n" for line in log))
     out = io.BytesIO()
     with open(folder / "log", "rb") as file:
-        conversion = Conversion(arguments(words, "log-to-script"), out)
+        conversion = Conversion(read_words(words), out)
         conversion.run(file, Progress(file))
         conversion.script.write()
     return out.getvalue().decode(), conversion.counts
@@ -379,10 +380,10 @@ def test_a_site_that_no_line_has_is_a_fault_that_lists_the_sites(
 ) -> None:
     (tmp_path / "log").write_text(row() + "\n" + row(station="B", site="east") + "\n")
     with pytest.raises(UsageError, match=re.escape(why) + "; its sites: north, east"):
-        convert(arguments([*words, str(tmp_path / "log")], "log-to-script"))
+        convert(read_words([*words, str(tmp_path / "log")]))
     with pytest.raises(UsageError, match=re.escape(why)):
         split = ("--split", str(tmp_path / "scripts"))
-        convert(arguments([*words, *split, str(tmp_path / "log")], "log-to-script"))
+        convert(read_words([*words, *split, str(tmp_path / "log")]))
     assert capfdbinary.readouterr().out == b"" and not list((tmp_path / "scripts").iterdir())
     # Sites that a file of stations or a map has are known, whatever the log has.
     (tmp_path / "stations").write_text("north A\neast B\n")
@@ -403,7 +404,7 @@ def test_a_log_of_many_stations_is_split(tmp_path: Path) -> None:
     (tmp_path / "log").write_text("".join(line + "\n" for line in log))
     folder = tmp_path / "scripts"
     words = [str(tmp_path / "log"), "--split", str(folder), "--period", "300"]
-    assert convert(arguments(words, "log-to-script")) == Status.DONE
+    assert convert(read_words(words)) == Status.DONE
     assert sorted(path.name for path in folder.iterdir()) == ["1.script", "2.script"]
     north, south = ((folder / f"{n}.script").read_text() for n in (1, 2))
     stations = "".join(f"station north N{n}\n" for n in range(50))
@@ -414,7 +415,7 @@ def test_a_log_of_many_stations_is_split(tmp_path: Path) -> None:
     )
     assert south.count("now ") == 1 and south.endswith("board south\n")
     with pytest.raises(UsageError, match="is not empty"):
-        convert(arguments(words, "log-to-script"))
+        convert(read_words(words))
 
 
 @pytest.mark.parametrize(
@@ -438,5 +439,5 @@ def test_a_log_of_many_stations_is_split(tmp_path: Path) -> None:
 )
 def test_wrong_words_end_with_2(words: tuple[str, ...]) -> None:
     with pytest.raises(SystemExit) as ended:
-        arguments(words, "log-to-script")
+        read_words(words)
     assert ended.value.code == 2

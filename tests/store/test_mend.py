@@ -23,6 +23,7 @@ from ocpp_board.sources.mend import (
 )
 from ocpp_board.sources.script import read_script
 from ocpp_board.statuses import Status
+from tests.store.converting import read_words
 from tests.traffic.troubles import FIRST, sound
 
 BERLIN = ZoneInfo("Europe/Berlin")
@@ -148,7 +149,7 @@ def test_a_script_has_what_was_taken_and_what_came(
     )
     (tmp_path / "log").write_text(log)
     words = [*(word for each in BOTH for word in ("--mend", each)), "--received"]
-    asked = log_to_script.arguments([*words, str(tmp_path / "log")], "log-to-script")
+    asked = read_words([*words, str(tmp_path / "log")])
     assert log_to_script.convert(asked) == Status.DONE
     script, said = capfd.readouterr()
     assert "messages mended: north=no-offset 4, north=text-value 4" in said
@@ -177,7 +178,7 @@ def test_scripts_that_are_split_have_what_came(tmp_path: Path) -> None:
     ]
     (tmp_path / "log.gz").write_bytes(gzip.compress("\n".join(rows).encode()))
     words = ["--split", str(tmp_path / "out"), "--mend", "s64=text-value", str(tmp_path / "log.gz")]
-    assert log_to_script.convert(log_to_script.arguments(words, "x")) == Status.DONE
+    assert log_to_script.convert(read_words(words)) == Status.DONE
     texts = [path.read_text() for path in sorted((tmp_path / "out").iterdir())]
     (has,) = (text for text in texts if "# mended" in text)
     before, after = has.split("# mended text-value A64 ")
@@ -189,7 +190,7 @@ def test_a_site_that_is_not_there_is_a_fault(tmp_path: Path) -> None:
     (tmp_path / "log").write_text(json.dumps(row) + "\n")
     words = ["--mend", "nroth=text-value", str(tmp_path / "log")]
     with pytest.raises(UsageError, match="--mend names the site 'nroth'"):
-        log_to_script.convert(log_to_script.arguments(words, "x"))
+        log_to_script.convert(read_words(words))
 
 
 def test_refusals_name_the_option() -> None:

@@ -20,7 +20,7 @@ from ocpp_board.commands.options import add_store
 from ocpp_board.errors import InputError, UsageError
 from ocpp_board.ledger.rows import DELIVER
 from ocpp_board.ledger.scripts import Script, part_scripts
-from ocpp_board.replay.script_lines import texts_comment
+from ocpp_board.sources.script import OPERATOR, write_comment
 from ocpp_board.statuses import Status
 from ocpp_board.store.database import Database, Row, open_store
 from ocpp_board.store.plan import find_rules
@@ -36,7 +36,6 @@ where s.site = :site order by l.station, l.transaction_id, l.number
 OF_STATION = """
 select station, transaction_id, site from session where station = :station order by site, transaction_id
 """
-OPERATOR = b"# operator "
 
 
 def add_words(parser: argparse.ArgumentParser) -> None:
@@ -63,7 +62,7 @@ def write_line(row: Row) -> Iterator[str]:
         when = write_moment(row.received) if row.received else ""
         texts = {"line": row.line, "who": row.who, "why": row.why, "time": when}
         texts["answer"] = f"accepted {row.number}"
-        yield texts_comment(OPERATOR, texts).decode().rstrip("\n")
+        yield write_comment(OPERATOR, texts).decode().rstrip("\n")
         yield row.line
         return
     if row.received:

@@ -16,7 +16,7 @@ import argparse
 import asyncio
 
 from ocpp_board.commands.options import add_program, add_store, choose_program
-from ocpp_board.words import options_of
+from ocpp_board.words import pick_options
 
 ENDING = """\
 Exit status: 0 when a signal ended it; 2 when the words are wrong, or a file or the port can't be used."""
@@ -123,7 +123,7 @@ def run(words: argparse.Namespace) -> int:
     from ocpp_board.gateway.gateway import Gateway, Options, use_uvloop
 
     choose_program(words.program)
-    options, files = options_of(Options, words), options_of(Files, words)
+    options, files = pick_options(Options, words), pick_options(Files, words)
 
     async def serve() -> None:
         await Gateway(options, files).run()

@@ -30,7 +30,7 @@ import logging
 import shutil
 import tempfile
 import zlib
-from collections.abc import Iterator, Sequence
+from collections.abc import Iterator
 from dataclasses import dataclass
 from io import BufferedWriter
 from pathlib import Path
@@ -67,12 +67,13 @@ from ocpp_board.sources.stations import (
     add_utc,
     choose_plan,
 )
-from ocpp_board.statuses import Status, ended
-from ocpp_board.words import options_of, parsed, parser_of
+from ocpp_board.statuses import Status
+from ocpp_board.words import pick_options
 
 log = logging.getLogger(__name__)
 
-ENDING = """\
+ENDING = f"""\
+{forms.FORMS}
 A station keeps 1,024 transactions, 16,384 events and 16,384 readings, unless --limits says otherwise. Memory
 doesn't grow with the log; without --stations the script waits in a temporary file (TMPDIR) until all stations are
 known. Exit status: 0 when every line was taken or left out; 1 when some were not; 2 when the words are wrong or a file
@@ -418,9 +419,8 @@ def add_script(parser: argparse.ArgumentParser) -> None:
     )
 
 
-def arguments(argv: Sequence[str], prog: str) -> Options:
-    """What the words ask for. Wrong ones end the program with status 2."""
-    parser = parser_of(prog, f"{__doc__}\n{forms.FORMS}", ENDING)
+def add_words(parser: argparse.ArgumentParser) -> None:
+    """The words of the command."""
     parser.add_argument(
         "log", nargs="?", default="-", help="the log, standard input if absent or -"
     )
@@ -431,14 +431,17 @@ def arguments(argv: Sequence[str], prog: str) -> Options:
     add_limits(parser)
     add_rules(parser)
     add_script(parser)
-    words = parsed(parser, argv)
-    shape, plan = choose_shape(words), choose_plan(parser, words)
+
+
+def read_options(words: argparse.Namespace) -> Options:
+    """What the words ask for. Wrong ones end the program with status 2."""
+    shape, plan = choose_shape(words), choose_plan(words.parser, words)
     if words.split and words.stations:
-        parser.error("--split has the stations of the log, and not those of --stations")
+        words.parser.error("--split has the stations of the log, and not those of --stations")
     if not shape.has_site and not plan.has_sites:
         form = shape.name if shape.regex else f"--form {shape.form}"
-        parser.error(f"{form} has no sites: --site, --site-map or --stations names them")
-    return options_of(Options, words, shape=shape, plan=plan)
+        words.parser.error(f"{form} has no sites: --site, --site-map or --stations names them")
+    return pick_options(Options, words, shape=shape, plan=plan)
 
 
 def convert(options: Options) -> int:
@@ -454,7 +457,6 @@ def convert(options: Options) -> int:
     return Status.REPORTED if conversion.counts["refused"] else Status.DONE
 
 
-def main(argv: Sequence[str], prog: str) -> int:
-    """Runs the tool with these words; gives its exit status."""
-    options = arguments(argv, prog)
-    return ended(lambda: convert(options))
+def run(words: argparse.Namespace) -> int:
+    """Does what the words ask for."""
+    return convert(read_options(words))

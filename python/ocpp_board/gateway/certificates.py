@@ -77,7 +77,9 @@ def read_revoked(path: str) -> frozenset[Named]:
         raise ValueError("a file of revocation lists (PEM) has these and nothing else")
     lists = [x509.load_pem_x509_crl(block) for block in blocks]
     return frozenset(
-        Named(one.issuer.public_bytes(), entry.serial_number) for one in lists for entry in one
+        Named(one.issuer.public_bytes(), one[place].serial_number)
+        for one in lists
+        for place in range(len(one))
     )
 
 

@@ -185,6 +185,26 @@ class AnswerReader:
         self.at += 1
         return self.lines[self.at - 1]
 
+    def look(self) -> str:
+        """The next line, which stays the next one. Raises ProgramError where there is none."""
+        line = self.read()
+        self.at -= 1
+        return line
+
+    def read_up_to(self, mark: str) -> str:
+        """The line before the next one that is this mark, which is read too; empty where there is none before it."""
+        line = self.read()
+        if line == mark:
+            return ""
+        if self.read() != mark:
+            raise ProgramError(f"the program wrote {line[:80]!r} and more of a line that declares")
+        return line
+
+    def skip_list(self) -> None:
+        """Passes over a list."""
+        while self.read() != "end":
+            pass
+
     def read_some(self, count: int) -> list[str]:
         """So many lines. Raises ProgramError where there are fewer."""
         lines = self.lines[self.at : self.at + count]

@@ -34,7 +34,7 @@ class Kind(Enum):
         "power that cannot be",
         "Between two readings the register rose faster than an EVSE can charge (--most-kw). One of the two readings "
         "or its time is wrong, and so is the energy. Compare them with the readings before and after, and void the "
-        "event that has the wrong one (a line `void STATION ID NUMBER` to live, or in the script).",
+        "event that has the wrong one (`operate`, or a line `void STATION ID NUMBER` of a script).",
         Effect.WRONG,
     )
     SIGNED = (
@@ -52,7 +52,7 @@ class Kind(Enum):
     REGISTER_FALLS = (
         "register falls",
         "The register reads less than before, and the fall counts as down. Compare the reading with those "
-        "before and after. If it is wrong, void its event (a line `void STATION ID NUMBER` to live, or in the script).",
+        "before and after. If it is wrong, void its event (`operate`, or a line `void STATION ID NUMBER` of a script).",
         Effect.WRONG,
     )
     REPEATED = (
@@ -217,14 +217,7 @@ def name_order_option(site: str, where: str = "") -> str:
     """The option of the tools that has a site's readings taken by moment, and the line of a script that does, which has
     its place there."""
     line = f"`order {site} moment`{' ' if where else ''}{where}"
-    return f"`--order {site}=moment` of log-to-script or live (in a script line {line})"
-
-
-def name_settle_option(site: str) -> str:
-    """The option of the tools that has a site settle by shares, and the line of a script that does."""
-    return (
-        f"`--settle {site}=even` of log-to-script or live (in a script line `settle {site} even`)"
-    )
+    return f"`--order {site}=moment` of report, follow or log-to-script (in a script line {line})"
 
 
 def find_powers(events: LiveEvents, most_kw: int) -> Iterator[Finding]:

@@ -1,47 +1,47 @@
 """Boards with periods that are wrong since stations list readings again, and the line that mends it."""
 
-import re
-from collections.abc import Callable
+from collections.abc import Mapping
+from typing import NamedTuple
 
-from ocpp_board.messages.transactions import Transaction
-from ocpp_board.replay.answered import Ask, Line
-from ocpp_board.replay.lists import asked, counted, lists_of, rows_of
-from ocpp_board.reports.quality import Kind, order_option, registers
-
-# A register that fell, in a session's line.
-FELL = re.compile(rb"down=[1-9]")
-BY_MOMENT = b" order=moment"
+from ocpp_board.ledger.answers import Board, Lists
+from ocpp_board.ledger.events import History, join_lists
+from ocpp_board.ledger.findings import Kind, find_falls_by_sequence, name_order_option
+from ocpp_board.ledger.replay import Key
 
 
-class RepeatHints:
-    """Takes boards, and reports once each site with a board on which readings that are listed again show as a fall."""
+class Hint(NamedTuple):
+    """What a board shows, and what mends it."""
 
-    def __init__(self, report: Callable[[Line, str, str], None]) -> None:
-        """`report` gets the line that asks for the board, what is reported, and a remedy."""
-        self.report = report
-        self.sites = set[str]()
-
-    def look(self, line: Line, text: bytes, ask: Ask) -> None:
-        """Looks at what a line `board` wrote, and asks for the lists of sessions that fell."""
-        site = line.line.decode("utf-8", "replace").partition(" ")[2]
-        is_hinted = site in self.sites or BY_MOMENT in text.partition(b"\n")[0]
-        rows = {} if is_hinted else rows_of(text)
-        fell = [one for one, row in rows.items() if FELL.search(row)]
-        answers = ask(b"".join(asked(*one) for one in fell))
-        found = [one for one, *lists in zip(fell, answers, answers) if is_repeated(*lists)]
-        if found:
-            self.sites.add(site)
-            sessions = "1 session" if len(found) == 1 else f"{len(found):,} sessions"
-            station, tx = found[0]
-            self.report(
-                line,
-                f"in {sessions} of site {site}, such as {tx} of {station}, readings are listed again, and by sequence "
-                "that is a fall and a second rise: their periods are wrong",
-                f"{order_option(site, 'behind the first `station` line of the site')} takes readings by moment",
-            )
+    said: str
+    remedy: str
 
 
-def is_repeated(events: bytes, readings: bytes) -> bool:
-    """Whether a session with these lists has readings that are listed again."""
-    found = registers(counted(lists_of(events, readings), Transaction()), "")
+def list_falls(board: Board) -> list[Key]:
+    """The transactions of a board with a register that fell."""
+    return [
+        (station, transaction)
+        for station, part in board.stations.items()
+        for transaction, figures in part.transactions.items()
+        if figures.flow.down or figures.flow.export_down
+    ]
+
+
+def is_repeated(lists: Lists) -> bool:
+    """Whether a transaction with these lists has readings that are listed again."""
+    found = find_falls_by_sequence(join_lists(lists, History()), "")
     return any(one.kind is Kind.REPEATED for one in found)
+
+
+def find_hint(site: str, lists: Mapping[Key, Lists]) -> Hint | None:
+    """What is reported of a site by sequence, by the lists of its transactions that fell; None where nothing is."""
+    found = [key for key, own in lists.items() if is_repeated(own)]
+    if not found:
+        return None
+    sessions = "1 session" if len(found) == 1 else f"{len(found):,} sessions"
+    station, transaction = found[0]
+    option = name_order_option(site, "behind the first `station` line of the site")
+    return Hint(
+        f"in {sessions} of site {site}, such as {transaction} of {station}, readings are listed again, and by sequence "
+        "that is a fall and a second rise: their periods are wrong",
+        f"{option} takes readings by moment",
+    )

@@ -11,7 +11,7 @@ from ocpp_board.errors import UsageError
 from ocpp_board.escapes import shown
 from ocpp_board.limits import LONGEST_LOG_LINE
 from ocpp_board.messages.texts import Members, Refused, members_of, object_of
-from ocpp_board.words import options_of
+from ocpp_board.words import pick_options
 
 FORMS = """\
 The shapes of logs that --form names; those of other projects as far as known:
@@ -448,4 +448,4 @@ class Shape:
 def choose_shape(words: argparse.Namespace) -> Shape:
     """The shape that the words ask for."""
     named = {field: getattr(words, field) for field in FIELDS if field in words}
-    return options_of(Shape, words, fields=named)
+    return pick_options(Shape, words, fields=named)

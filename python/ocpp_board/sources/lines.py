@@ -13,6 +13,7 @@ from ocpp_board.limits import (
     TRANSACTION,
     is_name,
 )
+from ocpp_board.messages.message_faults import Said
 from ocpp_board.messages.times import NO_TIME, fault_of
 from ocpp_board.sources.files import BYTE_ORDER_MARK
 
@@ -25,6 +26,8 @@ FORMS = {
     "settle": "settle <site> <word>",
     "now": "now <time>",
     "msg": "msg <station> <text>",
+    "deliver": "deliver <station> <text>",
+    "asks": "asks <text>",
     "void": "void <station> <transaction id> <seqNo>",
     "restore": "restore <station> <transaction id> <seqNo>",
     "erase": "erase <station> <transaction id> <seqNo>",
@@ -42,7 +45,9 @@ UTF_16 = (b"\xff\xfe", b"\xfe\xff")
 GREATEST = 2**64 - 1
 NAMES = "names have 1 to 48 of A-Z a-z 0-9 * - _ = : + | @ ."
 
-Said = tuple[str, str]  # A cause and its remedy.
+# The words of lines that end with a station's text, and how those begin that name its station.
+TEXTS = ("msg", "deliver", "asks")
+MESSAGES = ("msg ", "deliver ")
 
 
 def check_name(what: str, name: str) -> Said | None:
@@ -83,7 +88,7 @@ def check_words(words: list[str]) -> Said | None:
     if kind in ("board", "period", "order", "settle", "station"):
         if fault := check_name("site's name", rest[0]):
             return fault
-    if kind == "board":
+    if kind in ("board", "asks"):
         return None
     if kind == "station":
         return check_name("station's name", rest[1])
@@ -120,7 +125,9 @@ def check_words(words: list[str]) -> Said | None:
 
 def split_words(text: str) -> list[str]:
     """The words of a line; a message is one of them."""
-    return text.split(" ", 2) if text.startswith("msg ") else text.split(" ")
+    if text.startswith(MESSAGES):
+        return text.split(" ", 2)
+    return text.split(" ", 1) if text.startswith("asks ") else text.split(" ")
 
 
 def check_bytes(line: bytes, number: int) -> Said | None:
@@ -136,7 +143,8 @@ def check_bytes(line: bytes, number: int) -> Said | None:
         text = line.decode("utf-8")
     except UnicodeDecodeError as fault:
         return f"byte {fault.start + 1} is not UTF-8", "save the file as UTF-8"
-    if "\t" in " ".join(split_words(text)[:2] if text.startswith("msg ") else split_words(text)):
+    has_text = text.startswith((*MESSAGES, "asks "))
+    if "\t" in " ".join(split_words(text)[:-1] if has_text else split_words(text)):
         return f"there is a tab at character {text.index(chr(9)) + 1}", "one blank between words"
     if text.endswith("\r"):
         return (
@@ -177,7 +185,7 @@ def explain_line(line: bytes, number: int) -> Said:
     form = FORMS.get(words[0])
     if form is None:
         return explain_first(words[0])
-    if words[0] != "msg" and (said := check_blanks(text)):
+    if words[0] not in TEXTS and (said := check_blanks(text)):
         return said
     count = len(form.split(" <"))
     if len(words) != count:

@@ -16,7 +16,7 @@ from ocpp_board.escapes import shown
 from ocpp_board.limits import LONGEST_LINE, is_name
 from ocpp_board.messages.texts import CALL, JSON, blanks, expected
 from ocpp_board.messages.times import local_of
-from ocpp_board.words import zone
+from ocpp_board.words import read_zone
 
 # The faults that can be mended: a value that is sent as a text, and a time without an offset from UTC.
 TEXT_VALUE, NO_OFFSET = "text-value", "no-offset"
@@ -46,7 +46,7 @@ def read_mend(text: str) -> tuple[str, str, Zone]:
     if fault == TEXT_VALUE and not name:
         return site, fault, None
     if fault == NO_OFFSET and name:
-        return site, fault, zone(name)
+        return site, fault, read_zone(name)
     wanted = f"SITE={TEXT_VALUE} or SITE={NO_OFFSET}:ZONE, such as north={NO_OFFSET}:Europe/Berlin"
     raise argparse.ArgumentTypeError(f"{shown(text)} is not {wanted}")
 

@@ -25,9 +25,7 @@ RECEIVED, OPERATOR, UNTAKEN = b"# received ", b"# operator ", b"# untaken "
 # The first words of lines that declare, that an operator has done, and that only ask.
 DECLARES = ("limits", "station", "period", "order", "settle")
 DEEDS = ("void", "restore", "erase")
-ASKS = ("energy", "export", "total", "board", "events", "readings", "mark")
-# The cause of a line of a log that is no message of a station for the ledger.
-CAUSE = "Untaken"
+ASKS = ("energy", "export", "total", "board", "events", "readings", "asks", "mark")
 # Characters of a line that can't be taken which are kept.
 LONGEST_TEXT = 4_096
 
@@ -104,7 +102,7 @@ class ScriptReader:
     def read(self, line: bytes) -> Record | None:
         """The record that a line is, with the comments in front of it; None where it is none yet."""
         self.number += 1
-        if line.startswith(b"msg "):
+        if line.startswith((b"msg ", b"deliver ")):
             return self.read_message(line)
         bare = line[:-1].removesuffix(b"\r") if line.endswith(b"\n") else line
         if not bare or bare.startswith(b"#") and len(bare) <= LONGEST_LINE:
@@ -191,7 +189,7 @@ class ScriptReader:
             return self.read_deed(words)
         if word not in ASKS:
             return self.refuse(bare, "BadLine", received)
-        self.is_open = self.is_open or word != "mark"
+        self.is_open = self.is_open or word not in ("asks", "mark")
         return None
 
     def read_declaration(self, words: list[str], bare: bytes) -> Declaration | Untaken:
@@ -229,12 +227,12 @@ class ScriptReader:
         """A line that can't be taken, with what is wrong with it and what to do."""
         text = bare[: LONGEST_LINE + 1].decode("utf-8", "replace")
         words = split_words(text)
-        is_message = words[0] == "msg" and len(words) == 3
+        is_message = words[0] in ("msg", "deliver") and len(words) == 3
         named = find_named(words[2]) if is_message else None
         if named and received is None and (seconds := seconds_of(named.time)) is not None:
             received = datetime.fromtimestamp(int(seconds), timezone.utc)
         what, advice = explain_refusal(cause, bare[: LONGEST_LINE + 1], self.number)
-        station = words[1] if words[0] in ("msg", *DEEDS) and len(words) > 1 else ""
+        station = words[1] if words[0] in ("msg", "deliver", *DEEDS) and len(words) > 1 else ""
         site, origin = self.site_of.get(station), f"{self.name}:{self.number}"
         number = int(named.number) if named and named.number.isdecimal() else None
         names = station, named.transaction if named else "", number

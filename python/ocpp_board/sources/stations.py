@@ -14,7 +14,7 @@ from ocpp_board.messages.texts import Refused
 from ocpp_board.sources.forms import Entry
 from ocpp_board.sources.lines import NAMES, check_name
 from ocpp_board.sources.mend import Mends, add_mending, group_mends
-from ocpp_board.words import options_of
+from ocpp_board.words import pick_options
 
 # How a refusal begins that is of a station which the file of stations lacks.
 NOT_IN = "a station is not in"
@@ -96,11 +96,6 @@ class PlanOptions:
     def has_sites(self) -> bool:
         """Whether they say which sites the stations have."""
         return bool(self.one_site or self.site_map or self.stations)
-
-    @property
-    def has_settings(self) -> bool:
-        """Whether they ask for more than stations."""
-        return bool(self.order or self.settle or self.period or self.limits or self.mend)
 
     def find_words(self, site: str) -> SiteWords:
         """What is asked of a site."""
@@ -322,4 +317,4 @@ def choose_plan(parser: argparse.ArgumentParser, words: argparse.Namespace) -> P
         parser.error(f"--site is no name: {said[0]}; {said[1]}")
     by_site = {name: dict(getattr(words, name)) for name in ("period", "order", "settle")}
     limits = tuple(asked) if asked else None
-    return options_of(PlanOptions, words, limits=limits, mend=group_mends(words.mend), **by_site)
+    return pick_options(PlanOptions, words, limits=limits, mend=group_mends(words.mend), **by_site)

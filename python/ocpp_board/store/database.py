@@ -33,7 +33,9 @@ except ModuleNotFoundError:
 HERE = Path(__file__).parent
 VERSION = 1
 # The files of the schema, in the order in which they are run.
-SOURCES = "schema.sql days.sql gateway.sql web.sql views.sql finding_views.sql days_views.sql".split()
+SOURCES = (
+    "schema.sql days.sql gateway.sql web.sql views.sql finding_views.sql days_views.sql".split()
+)
 # How many partitions PostgreSQL's tables by station have.
 PARTITIONS = 16
 # Seconds that a writer waits for another one.

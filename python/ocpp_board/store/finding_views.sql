@@ -127,7 +127,7 @@ create view station_finding as
     select s.site, s.station, 'readings where periods begin' as kind,
         cast(sum(s.boundary_moments) as bigint) as times, min(s.first_boundary_at) as first_at,
         sum(s.boundary_moments) || ' of ' || sum(s.reading_moments) || ' moments of readings; `--settle ' || s.site
-            || '=even` of log-to-script or live (in a script line `settle ' || s.site || ' even`)' as detail
+            || '=even` of report, follow or log-to-script (in a script line `settle ' || s.site || ' even`)' as detail
     from session s join site i on i.site = s.site
     where i.settle = 'later' and s.events > 0
     group by s.site, s.station

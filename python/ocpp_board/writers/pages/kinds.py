@@ -25,8 +25,6 @@ OTHERS = {
     FALLS: "A register fell, or readings were listed again. Look at it before you settle periods.",
     VOIDED: "An operator voided them, so they don't count.",
 }
-# Findings that explain why a register fell.
-EXPLAIN_FALLS = {Kind.REGISTER_FALLS.label, Kind.RESET.label, Kind.REPEATED.label}
 
 
 def find_state(state: str) -> str:
@@ -44,11 +42,6 @@ def explain(name: str) -> str:
 def is_wrong(name: str) -> bool:
     """Whether a number is wrong by a finding."""
     return name in KINDS and KINDS[name].effect is Effect.WRONG
-
-
-def is_lack(name: str) -> bool:
-    """Whether energy is lacking by a finding."""
-    return name in KINDS and KINDS[name].effect is Effect.LACKS
 
 
 # All problems, the gravest first.
