@@ -77,14 +77,16 @@ class Renewer:
         if self.mark is None:
             self.pages += self.writer.write_all()
             self.write_all_tables()
-        else:
-            rows = self.find_changed(self.mark)
-            found = {*changed, *((row.station, row.transaction_id) for row in rows)}
-            if found:
-                self.pages += self.writer.write_changed(found)
-                self.write_tables(found, rows)
-        self.note_seen(now)
-        self.write_mark(now)
+            self.write_mark(now)
+            return
+        rows = self.find_changed(self.mark)
+        found = {*changed, *((row.station, row.transaction_id) for row in rows)}
+        if found:
+            self.pages += self.writer.write_changed(found)
+            self.write_tables(found, rows)
+        if found or now > self.mark + LATE / 2:
+            self.note_seen(now)
+            self.write_mark(now)
 
     def find_changed(self, mark: datetime) -> list[Row]:
         """The transactions that changed since a moment and were not written since."""
