@@ -88,7 +88,7 @@ class Cluster:
     def wait(self) -> None:
         """Waits until it answers."""
         due = time.monotonic() + PATIENCE
-        ask = [BIN / "pg_isready", "-q", "-h", "127.0.0.1", "-p", str(self.port)]
+        ask = [str(BIN / "pg_isready"), "-q", "-h", "127.0.0.1", "-p", str(self.port)]
         while subprocess.run(ask, check=False).returncode:
             if time.monotonic() > due:
                 raise TimeoutError((self.folder / "log").read_text()[-2000:])
