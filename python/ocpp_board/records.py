@@ -57,7 +57,7 @@ class Untaken:
 Asked = Message | Deed | Untaken
 
 
-@dataclass(frozen=True, slots=True)
+@dataclass(slots=True)
 class Answer:
     """What became of what was asked.
 

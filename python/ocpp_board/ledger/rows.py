@@ -114,10 +114,9 @@ class Work(NamedTuple):
 
 
 class Done(NamedTuple):
-    """The answers to the new lines of a work, its lines after them, and its rows; None where nothing changed."""
+    """The answers to the new lines of a work, and its rows after them; None where nothing changed."""
 
     answers: list[LineAnswer]
-    accepted: list[Line]
     rows: Rows | None
 
 
@@ -165,16 +164,23 @@ def finish_work(
 ) -> Done:
     """What became of a transaction's new lines, and its rows. The reader is before its two lists."""
     lists = Lists(reader.read_events(), reader.read_readings())
-    accepted, conflicts = list[Line](), dict.fromkeys(work.conflicts)
+    accepted, conflicts = list_accepted(work, answers), dict.fromkeys(work.conflicts)
     for line, answer in zip(work.new, answers):
-        if answer.outcome == "accepted":
-            accepted.append(line._replace(number=answer.change))
-        elif answer.name == CONFLICT and line.text.startswith(DELIVER):
+        if answer.name == CONFLICT and line.text.startswith(DELIVER):
             conflicts[line.text] = None
     if not accepted and len(conflicts) == len(work.conflicts) and not work.has_rows:
-        return Done(answers, accepted, None)
+        return Done(answers, None)
     work = work._replace(conflicts=list(conflicts))
-    return Done(answers, accepted, make_rows(work, [*work.stored, *accepted], board, lists))
+    return Done(answers, make_rows(work, [*work.stored, *accepted], board, lists))
+
+
+def list_accepted(work: Work, answers: Sequence[LineAnswer]) -> list[Line]:
+    """The new lines of a work that were accepted, each with its place among those of its transaction."""
+    return [
+        Line(answer.change, *line[1:])
+        for line, answer in zip(work.new, answers)
+        if answer.outcome == "accepted"
+    ]
 
 
 # Scripts --------------------------------------------------------------------------------------------------------------

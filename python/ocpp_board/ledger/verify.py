@@ -21,8 +21,8 @@ from ocpp_board.store.plan import RULES_COLUMNS, read_rules
 # Scripts that are made before they are answered.
 AT_ONCE = 8
 LINES = """
-select l.station, l.transaction_id, l.number, l.line, l.received, l.who, l.why, l.origin from line l
-join session s on s.station = l.station and s.transaction_id = l.transaction_id
+select l.station, l.transaction_id, l.line from session s
+join line l on l.station = s.station and l.transaction_id = s.transaction_id
 where s.site = :site order by l.station, l.transaction_id, l.number
 """
 COUNTS = ("events", "voided", "transactions", "complete_transactions", "missing")

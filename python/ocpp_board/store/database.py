@@ -59,6 +59,7 @@ def is_moment(column: str) -> bool:
     return column in MOMENTS or column.endswith(("_at", "_until"))
 
 
+@lru_cache(65_536)
 def write_moment(at: datetime) -> str:
     """A moment as SQLite keeps it."""
     return at.astimezone(timezone.utc).isoformat(" ", "microseconds")
@@ -197,9 +198,10 @@ class SqliteDatabase(Database):
         self.connection.executemany(statement, values)
 
     @report_faults
-    def execute_script(self, text: str) -> None:
-        """Runs statements."""
-        self.connection.executescript(text)
+    @report_faults
+    def insert_rows(self, statement: str, rows: Iterable[tuple[Any, ...]]) -> None:
+        """Runs a statement for each of these rows, by the places of its marks `?`."""
+        self.connection.executemany(statement, rows)
 
     @report_faults
     def fetch(self, statement: str, **values: Any) -> list[Row]:
@@ -310,11 +312,6 @@ class PostgresDatabase(Database):
         """Runs a statement for each of these values, without waiting between them."""
         with self.connection.cursor() as cursor:
             cursor.executemany(write_postgresql(statement), values)
-
-    @report_faults
-    def execute_script(self, text: str) -> None:
-        """Runs statements."""
-        self.connection.execute(text)
 
     @report_faults
     def fetch(self, statement: str, **values: Any) -> list[Row]:
