@@ -11,10 +11,10 @@ import logging
 import os
 import re
 import ssl
-from collections.abc import Callable
+from collections.abc import Callable, Iterable
 from dataclasses import dataclass, field
 from pathlib import Path
-from typing import Any, NamedTuple
+from typing import Any, NamedTuple, cast
 
 from cryptography import x509
 from websockets.datastructures import Headers
@@ -75,12 +75,12 @@ def read_revoked(path: str) -> frozenset[Named]:
     blocks = LIST.findall(text)
     if not blocks or text.count(b"-----BEGIN") != len(blocks):
         raise ValueError("a file of revocation lists (PEM) has these and nothing else")
-    lists = [x509.load_pem_x509_crl(block) for block in blocks]
-    return frozenset(
-        Named(one.issuer.public_bytes(), one[place].serial_number)
-        for one in lists
-        for place in range(len(one))
-    )
+    found = set[Named]()
+    for one in map(x509.load_pem_x509_crl, blocks):
+        issuer = one.issuer.public_bytes()
+        entries = cast(Iterable[x509.RevokedCertificate], one)
+        found.update(Named(issuer, entry.serial_number) for entry in entries)
+    return frozenset(found)
 
 
 def make_context(files: Files) -> ssl.SSLContext | None:

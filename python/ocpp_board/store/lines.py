@@ -205,7 +205,7 @@ def read_refusals(store: Database, keys: Sequence[Key]) -> Iterable[list[Row]]:
     return fetch_keyed(store, columns, "refusal", keys, more)
 
 
-# What a process stored last ---------------------------------------------------------------------------------------
+# What a process stored last ------------------------------------------------------------------------------------------
 
 
 @dataclass(slots=True)
@@ -254,7 +254,7 @@ class Warm:
             self.drop(next(iter(self.kept)))
 
 
-# Writing -----------------------------------------------------------------------------------------------------------
+# Writing -------------------------------------------------------------------------------------------------------------
 
 
 class Writer:
