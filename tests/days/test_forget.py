@@ -17,7 +17,7 @@ from ocpp_board.ledger.forgetting import Wanted, forget_tokens
 from ocpp_board.ledger.old_sessions import move_old
 from ocpp_board.ledger.program import find_program
 from ocpp_board.ledger.verify import verify
-from ocpp_board.messages.tokens import empty_tokens
+from ocpp_board.messages.tokens import empty_line, empty_tokens
 from ocpp_board.records import Message
 from ocpp_board.store.closing import close_day
 from ocpp_board.store.database import Database
@@ -259,10 +259,9 @@ def test_a_session_whose_figures_would_change_keeps_its_lines(
     store: Database, monkeypatch: pytest.MonkeyPatch
 ) -> None:
     send(store, "A", give_token(sound("t1", FIRST), "Ab12"), give_token(sound("t2", FIRST), "Ab12"))
-    empty = forgetting.empty_line
 
     def spoil(line: str, *words: Any) -> str:
-        return empty(line, *words).replace('"t1"},"evse":{"id":1}', '"t1"},"evse":{"id":2}')
+        return empty_line(line, *words).replace('"t1"},"evse":{"id":1}', '"t1"},"evse":{"id":2}')
 
     monkeypatch.setattr(forgetting, "empty_line", spoil)
     before = store.fetch("select line from line where transaction_id = 't1' order by number")
