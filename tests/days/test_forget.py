@@ -17,10 +17,11 @@ from ocpp_board.ledger.forgetting import Wanted, forget_tokens
 from ocpp_board.ledger.old_sessions import move_old
 from ocpp_board.ledger.program import find_program
 from ocpp_board.ledger.verify import verify
-from ocpp_board.messages.tokens import empty_tokens
+from ocpp_board.messages.tokens import empty_line, empty_tokens
 from ocpp_board.records import Message
 from ocpp_board.store.closing import close_day
 from ocpp_board.store.database import Database
+from ocpp_board.store.lines import Warm
 from tests.days.conftest import SITE, operate, read_noon, run, send, write_message
 from tests.traffic.troubles import FIRST, Session, signed_differs, sound
 
@@ -118,6 +119,27 @@ def test_one_token_leaves_whatever_its_letters(store: Database) -> None:
     found = forget_tokens(store, find_program(), Wanted("ab12"))
     assert (found.lines, find_texts(store, "ab12"), find_texts(store, "other")) == (2, 0, 2)
     assert verify(store).difference == ""
+
+
+def test_a_token_does_not_come_back_with_what_a_process_keeps(store: Database) -> None:
+    warm, session = Warm(), give_token(sound("t1", FIRST), "Ab12")
+    messages = [Message("A", write_message(one), one.received, "a log") for one in session]
+    settle(store, messages[:2], warm=warm)
+    assert forget_tokens(store, find_program(), Wanted("Ab12")).lines == 1
+    settle(store, messages[2:], warm=warm)
+    assert find_texts(store, "Ab12") == 0
+    assert verify(store).difference == ""
+
+
+def test_no_file_of_sqlite_has_the_token(store: Database, store_name: str) -> None:
+    if store.kind != "sqlite":
+        pytest.skip("PostgreSQL's files are its own")
+    session = give_token(sound("t1", FIRST), "Token-4711")
+    send(store, "A", session)
+    files = list(Path(store_name).parent.glob("ledger.db*"))
+    assert any(b"Token-4711" in path.read_bytes() for path in files)
+    forget_tokens(store, find_program(), Wanted())
+    assert not any(b"Token-4711" in path.read_bytes() for path in files if path.exists())
 
 
 def test_signed_values_leave_where_it_is_asked(store: Database) -> None:

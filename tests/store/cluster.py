@@ -3,6 +3,7 @@
 import os
 import pwd
 import shutil
+import signal
 import subprocess
 import tempfile
 from collections.abc import Iterator
@@ -78,9 +79,9 @@ class Cluster:
                     raise RuntimeError((self.folder / "log").read_text()) from None
 
     def stop(self) -> None:
-        """Ends the server at once."""
+        """Ends the server at once: nobody wants its data."""
         if self.process is not None:
-            self.process.terminate()
+            self.process.send_signal(signal.SIGQUIT)
             self.process.wait()
 
 

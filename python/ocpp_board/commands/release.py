@@ -4,7 +4,8 @@
     ocpp-board release --store ledger.db CS-01 T-4711 --why "compared with the meter"
 
 A session is held where a finding makes its energy wrong, where its energy is below 0, or where its earlier lines left
-for a file: bills name it as held, and it is not to be billed. Released, it is billed as it is. It is held again when its energy changes.
+for a file: bills name it as held, and it is not to be billed. Released, it is billed as it is. It is held again when
+its energy changes.
 """
 
 import argparse

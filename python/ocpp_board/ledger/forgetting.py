@@ -47,6 +47,7 @@ WRITE_LINE = """
 update line set line = :line
 where station = :station and transaction_id = :transaction_id and number = :number
 """
+# The moment of change has who keeps the lines of a session read them again, and its pages written.
 WRITE_SESSION = """
 update session set token = :token, token_type = :token_type, signed = :signed, changed_at = :changed_at
 where station = :station and transaction_id = :transaction_id
@@ -68,6 +69,8 @@ select station, digest, came as text from mended
 where (at is null or at < :before) and {MAY_HAVE.format('came')}
 """
 WRITE_MENDED = "update mended set came = :text where station = :station and digest = :digest"
+# SQLite writes zeros where a text was, and leaves none in its write-ahead log.
+OVERWRITE, EMPTY_WAL = "pragma secure_delete = on", "pragma wal_checkpoint(truncate)"
 
 
 class Wanted(NamedTuple):
@@ -113,12 +116,16 @@ class Emptied(NamedTuple):
 
 def forget_tokens(store: Database, program: Program, wanted: Wanted) -> Forgotten:
     """Empties tokens in lines, sessions, refused texts and strays. It may end at any time: call it again."""
+    if store.kind == "sqlite":
+        store.fetch(OVERWRITE)
     found, keys = Forgotten(), list_sessions(store, wanted)
     for start in range(0, len(keys), AT_ONCE):
         with store.transaction():
             write_sessions(store, program, wanted, keys[start : start + AT_ONCE], found)
     with store.transaction():
         write_texts(store, wanted, found)
+    if store.kind == "sqlite":
+        store.fetch(EMPTY_WAL)
     return found
 
 
