@@ -139,7 +139,9 @@ class Scene:
         with open_store(self.name) as store:
             (row,) = store.fetch("select count(*) as n from line")
             verified = verify(store)
-        print(f"{row.n} lines; {verified.figures} figures compared: {verified.difference or 'all right'}")
+        print(
+            f"{row.n} lines; {verified.figures} figures compared: {verified.difference or 'all right'}"
+        )
         is_right = not verified.difference and not seen.odd
         is_right &= len(seen.waits) <= row.n <= len(seen.waits) + self.words.stations
         return 0 if is_right else 1

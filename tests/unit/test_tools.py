@@ -352,7 +352,8 @@ def test_each_command_has_its_words(capsys: pytest.CaptureFixture[str]) -> None:
         assert f"    {name}" in said
         with pytest.raises(SystemExit) as ended:
             cli.main([name, "--help"])
-        assert ended.value.code == 0 and "Exit status: 0" in capsys.readouterr().out
+        assert ended.value.code == 0
+        assert capsys.readouterr().out.startswith(f"usage: ocpp-board {name} ")
     with pytest.raises(SystemExit) as ended:
         cli.main(["tables"])
     assert ended.value.code == Status.MISTAKEN
@@ -361,14 +362,14 @@ def test_each_command_has_its_words(capsys: pytest.CaptureFixture[str]) -> None:
 def test_a_package_that_is_missing_is_named() -> None:
     code = """if True:
         import sys
-        sys.modules |= {"starlette": None}
+        sys.modules |= {"jinja2": None, "markupsafe": None}
         from ocpp_board import cli
-        sys.exit(cli.main(["web", "--help"]))
+        sys.exit(cli.main(["follow", "--help"]))
     """
     words = [sys.executable, "-c", code]
     ended = subprocess.run(words, env={"PYTHONPATH": ":".join(sys.path)}, capture_output=True)
     assert ended.returncode == Status.MISTAKEN
-    assert b"apt-get install python3-starlette" in ended.stderr
+    assert b"apt-get install python3-jinja2" in ended.stderr
 
 
 @pytest.mark.parametrize("said", [None, "glibc.malloc.arena_max=2"])

@@ -30,8 +30,14 @@ UNSET_CLOCK = (
     "set the station's clock; what it sent meanwhile is lost unless it sends it again with a time"
 )
 # What takes messages of a log as they are meant.
-MEND_VALUE = "take the log again with `--mend SITE=text-value` of report, follow or log-to-script, which takes it as a number"
-MEND_TIME = "take the log again with `--mend SITE=no-offset:ZONE` of report, follow or log-to-script, which names its zone"
+MEND_VALUE = (
+    "take the log again with `--mend SITE=text-value` of report, follow or log-to-script, which takes it as "
+    "a number"
+)
+MEND_TIME = (
+    "take the log again with `--mend SITE=no-offset:ZONE` of report, follow or log-to-script, which names "
+    "its zone"
+)
 
 
 class Token(str):
