@@ -14,6 +14,7 @@ not at all.
 """
 
 import csv
+import io
 import json
 import os
 from collections import OrderedDict
@@ -103,14 +104,24 @@ class Site(NamedTuple):
     settle: str
 
 
-def write_csv(path: Path, heads: Sequence[str], rows: Iterable[Iterable[Cell]]) -> None:
-    """Writes a CSV file, which is there whole or not at all. Raises OSError."""
+def write_csv(
+    path: Path, heads: Sequence[str], rows: Iterable[Iterable[Cell]], texts: Iterable[str] = ()
+) -> None:
+    """Writes a CSV file, which is there whole or not at all. `texts`: further rows as text. Raises OSError."""
     made = path.with_name(f".{path.name}.made")
     with open(made, "w", encoding="utf-8", newline="") as file:
         table = csv.writer(file, lineterminator="\n")
         table.writerow(heads)
         table.writerows(rows)
+        file.writelines(texts)
     os.replace(made, path)
+
+
+def write_text(rows: Iterable[Iterable[Cell]]) -> str:
+    """Rows of a CSV file as text."""
+    text = io.StringIO(newline="")
+    csv.writer(text, lineterminator="\n").writerows(rows)
+    return text.getvalue()
 
 
 @lru_cache(KEPT)
@@ -248,8 +259,12 @@ class SiteTables:
         times = [f"period {end} ({zone})" for end in ("start", "end") for zone in zones]
         heads = ["level", "site", "station", "EVSE", "seconds", *times, "period", *FLOWS]
         heads += ["net (kWh)", "figure", "shared by time (kWh)", "numbers missing"]
-        rows = self.list_periods() if stations is None else self.book.list_periods(self, stations)
-        write_csv(self.path("periods"), [*heads, "readings", "settle"], rows)
+        heads += ["readings", "settle"]
+        if stations is None:
+            write_csv(self.path("periods"), heads, self.list_periods())
+            return
+        site = self.write_rows("site", "", "", self.fetch_periods("starts"), None)
+        write_csv(self.path("periods"), heads, site, self.book.read_periods(self, stations))
 
     def list_periods(self) -> Iterator[list[Cell]]:
         """The rows of the table of periods: those of the site, then each station's and its EVSEs'."""
@@ -516,22 +531,19 @@ class Book:
         # Findings by site and station.
         self.sites: dict[str, dict[str, list[Row]]] = {}
         # Rows of periods by site and day, and by station; the days that were written last are kept.
-        self.days = OrderedDict[tuple[str, date | None], dict[str, list[list[Cell]]]]()
+        self.days = OrderedDict[tuple[str, date | None], dict[str, str]]()
 
-    def list_periods(self, tables: "SiteTables", stations: Iterable[str]) -> Iterator[list[Cell]]:
-        """The rows of the periods of a site's day, those of these stations as they are by now."""
+    def read_periods(self, tables: "SiteTables", stations: Iterable[str]) -> Iterable[str]:
+        """The rows of the periods of the stations of a site's day, those of these stations as they are by now."""
         key = tables.site.site, tables.day
-        known = self.days.get(key)
-        names = tables.list_stations() if known is None else stations
+        names = stations if key in self.days else tables.list_stations()
         known = self.days.setdefault(key, {})
         for station in names:
-            known[station] = list(tables.list_station(station))
+            known[station] = write_text(tables.list_station(station))
         self.days.move_to_end(key)
         if len(self.days) > MOST_DAYS:
             self.days.popitem(last=False)
-        yield from tables.write_rows("site", "", "", tables.fetch_periods("starts"), None)
-        for rows in known.values():
-            yield from rows
+        return known.values()
 
     def read(self, site: str) -> list[Row]:
         """What is doubtful at a site."""
