@@ -7,6 +7,7 @@ answer is given only after the commit. A failure gives none, and the same may co
 
 import re
 from collections.abc import Callable, Iterable, Iterator, Sequence
+from contextlib import AbstractContextManager, nullcontext
 from dataclasses import dataclass, field
 from datetime import datetime, timezone
 from functools import partial
@@ -77,6 +78,10 @@ class Batch:
     mended: list[tuple[Message, Wish]] = field(default_factory=list)
 
 
+# What will become of transactions: their works, and what is done of them.
+Foreseen = dict[Key, tuple[Work, Done]]
+
+
 class Piece(NamedTuple):
     """The transactions that a process works on."""
 
@@ -91,17 +96,20 @@ def settle(
     *,
     also: Callable[[Database], None] | None = None,
     warm: Warm | None = None,
+    guard: AbstractContextManager[Any] | None = None,
 ) -> list[Answer]:
     """Answers what is asked, in its order, once all that it changes is committed. Raises StoreError and ProgramError,
     and then nothing has changed. `pool`: processes among which texts and transactions are parted; `also`: is called
-    within the database transaction, right before its commit; `warm`: what this process stored last.
+    within the database transaction, right before its commit; `warm`: what this process stored last; `guard`: is held
+    together with a SQLite file, where several processes settle at once, and all that can be is computed before.
     """
     batch = Batch(asked, ask_program(asked, pool))
     sort_asked(batch)
     find_strangers(store, batch)
     if batch.sessions or batch.refusals or batch.others or batch.mended or also:
-        with store.transaction():
-            kept = write_batch(store, batch, pool, warm)
+        foreseen = foresee(store, batch) if guard and store.kind == "sqlite" else {}
+        with guard or nullcontext(), store.transaction():
+            kept = write_batch(store, batch, pool, warm, foreseen)
             if also:
                 also(store)
         if warm is not None:
@@ -208,7 +216,7 @@ def find_strangers(store: Database, batch: Batch) -> None:
 
 
 def write_batch(
-    store: Database, batch: Batch, pool: Pool | None, warm: Warm | None
+    store: Database, batch: Batch, pool: Pool | None, warm: Warm | None, foreseen: Foreseen
 ) -> dict[Key, Kept]:
     """Writes what a batch changes, within a database transaction, and answers the rest of it."""
     sites = hold_sites(store, batch)
@@ -219,22 +227,9 @@ def write_batch(
     )
     deeds = find_done(store, batch)
     batch.answers |= deeds
-    rules = find_all_rules(store, {one.site for one in held.values()})
-    works = {
-        key: Work(
-            *(
-                *key,
-                one.site,
-                rules[one.site],
-                one.lines,
-                list_new(batch, batch.sessions[key], deeds),
-            ),
-            list_conflicts(key, one),
-        )
-        for key, one in held.items()
-    }
+    works = make_works(store, batch, held, deeds)
     writer = Writer(store, warm is not None)
-    for key, work, done in work_on(works, pool):
+    for key, work, done in work_on(works, pool, foreseen):
         take_answers(writer, batch, work, done, held[key], deeds)
     writer.write()
     write_refusals(store, batch)
@@ -242,6 +237,29 @@ def write_batch(
     write_mended(store, batch)
     write_levels(store, batch, sites)
     return writer.kept
+
+
+def make_works(
+    store: Database, batch: Batch, held: dict[Key, Held], deeds: dict[int, Answer]
+) -> dict[Key, Work]:
+    """The works of transactions that are held."""
+    rules = find_all_rules(store, {one.site for one in held.values()})
+    works = dict[Key, Work]()
+    for key, one in held.items():
+        new = list_new(batch, batch.sessions[key], deeds)
+        works[key] = Work(*key, one.site, rules[one.site], one.lines, new, list_conflicts(key, one))
+    return works
+
+
+def foresee(store: Database, batch: Batch) -> Foreseen:
+    """What will become of a batch's transactions, if nobody changes them meanwhile."""
+    with store.snapshot():
+        sites = store_lines.find_sites(store, sorted({key[0] for key in batch.sessions}))
+        known = {key: sites[key[0]] for key in batch.sessions if key[0] in sites}
+        works = make_works(
+            store, batch, store_lines.hold_sessions(store, known), find_done(store, batch)
+        )
+    return {key: (work, done) for key, work, done in work_on(works, None)}
 
 
 def hold_sites(store: Database, batch: Batch) -> dict[str, str]:
@@ -363,9 +381,14 @@ def make_line(one: Asked) -> Line:
     return Line(0, text, one.received, one.who, one.why, one.origin)
 
 
-def work_on(works: dict[Key, Work], pool: Pool | None) -> Iterator[tuple[Key, Work, Done]]:
+def work_on(
+    works: dict[Key, Work], pool: Pool | None, foreseen: Foreseen | None = None
+) -> Iterator[tuple[Key, Work, Done]]:
     """What became of each transaction's new lines, and its rows."""
     some = {key: work for key, work in works.items() if work.new or work.has_rows}
+    for key, (work, done) in (foreseen or {}).items():
+        if some.get(key) == work:
+            yield key, some.pop(key), done
     if pool is None:
         for (key, work), done in zip(some.items(), work_out(find_program(), some.values())):
             yield key, work, done
