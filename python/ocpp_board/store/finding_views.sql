@@ -42,14 +42,15 @@ create view evse_step as
     where evse <> 0 and events > 0 and first_register is not null
     window earlier as (partition by site, station, evse order by first_at, transaction_id);
 
--- Each transaction of an EVSE beside the one after it.
+-- Each transaction of an EVSE that has no end beside the one after it.
 create view evse_next as
-    select site, station, transaction_id, evse, last_at, ended,
-        lead(transaction_id) over later as next_id,
-        lead(first_at) over later as next_at
-    from session
-    where evse <> 0 and events > 0 and first_at is not null
-    window later as (partition by site, station, evse order by first_at, transaction_id);
+    select s.site, s.station, s.transaction_id, s.evse, s.last_at, n.transaction_id as next_id, n.first_at as next_at
+    from session s join session n on n.station = s.station and n.transaction_id = (
+        select l.transaction_id from session l
+        where l.station = s.station and l.evse = s.evse and l.site = s.site and l.events > 0
+            and l.first_at >= s.first_at and (l.first_at > s.first_at or l.transaction_id > s.transaction_id)
+        order by l.first_at, l.transaction_id limit 1)
+    where s.ended is null and s.evse <> 0 and s.events > 0;
 
 -- How far the register of an EVSE rose or fell from one transaction to the next, where that is doubtful. Energies are
 -- also there as texts of their watt-hours: eleven digits behind a 1.
@@ -83,24 +84,25 @@ create view other_counter as
 -- What is doubtful between transactions of an EVSE: the register rose or was reset from one to the next, a later one
 -- began before an end came, or missing numbers came in transactions of other EVSEs at the same time.
 create view evse_finding as
-    select site, station, transaction_id, 'register rose between sessions' as kind, 1 as times, first_at,
-        coalesce(nullif(ltrim(substr(difference, 2, 2) || ',' || substr(difference, 4, 3) || ','
+    select site, station, transaction_id,
+        case when mwh > 0 then 'register rose between sessions' else 'register reset or exchanged' end as kind,
+        1 as times, first_at,
+        case when mwh > 0 then
+            coalesce(nullif(ltrim(substr(difference, 2, 2) || ',' || substr(difference, 4, 3) || ','
             || substr(difference, 7, 3), '0,'), ''), '0') || '.' || substr(difference, 10, 3)
-            || ' kWh between ' || before_id || ' and ' || transaction_id as detail
-    from evse_change where mwh > 0
-    union all
-    select site, station, transaction_id, 'register reset or exchanged', 1, first_at,
-        coalesce(nullif(ltrim(substr(had, 2, 2) || ',' || substr(had, 4, 3) || ','
+            || ' kWh between ' || before_id || ' and ' || transaction_id
+        else coalesce(nullif(ltrim(substr(had, 2, 2) || ',' || substr(had, 4, 3) || ','
             || substr(had, 7, 3), '0,'), ''), '0') || '.' || substr(had, 10, 3)
             || ' kWh at the end of ' || before_id || ', '
             || coalesce(nullif(ltrim(substr(has, 2, 2) || ',' || substr(has, 4, 3) || ','
             || substr(has, 7, 3), '0,'), ''), '0') || '.' || substr(has, 10, 3) || ' kWh here: '
             || coalesce(nullif(ltrim(substr(difference, 2, 2) || ',' || substr(difference, 4, 3) || ','
             || substr(difference, 7, 3), '0,'), ''), '0') || '.' || substr(difference, 10, 3) || ' kWh less'
-    from evse_change where mwh < 0
+        end as detail
+    from evse_change
     union all
     select site, station, transaction_id, 'no end, and a later session began', 1, next_at, next_id || ' began'
-    from evse_next where ended is null and next_at >= last_at
+    from evse_next where next_at >= last_at
     union all
     select site, station, transaction_id, 'one counter for several EVSEs', 1, first_at,
         'with ' || min(other_id) || case when count(distinct other_id) > 1

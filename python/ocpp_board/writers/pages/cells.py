@@ -47,27 +47,27 @@ def make_columns(*heads: str | Column) -> list[Column]:
 
 def wrap_time(text: str) -> Markup:
     """Wraps a day or a time, so that it is not broken."""
-    return Markup("<time>%s</time>") % text
+    return Markup(f"<time>{escape(text)}</time>")
 
 
 def link(href: str, text: str) -> Markup:
     """Links a text to a page."""
-    return Markup('<a href="%s">%s</a>') % (href, text)
+    return Markup(f'<a href="{escape(href)}">{escape(text)}</a>')
 
 
 def flag(text: str) -> Markup:
     """Marks a text as something that is wrong."""
-    return Markup('<span class="flag">%s</span>') % text
+    return Markup(f'<span class="flag">{escape(text)}</span>')
 
 
 def stack(*texts: str) -> Markup:
     """Puts texts below each other in a cell."""
-    return Markup("<br>").join(escape(text) for text in texts if text)
+    return Markup("<br>".join([escape(text) for text in texts if text]))
 
 
 def join(texts: Iterable[str], between: str) -> Markup:
     """Joins texts, each escaped where it is no HTML."""
-    return Markup(between).join(texts)
+    return Markup(between.join([escape(text) for text in texts]))
 
 
 def name_flows(has_export: bool) -> list[str]:

@@ -131,6 +131,8 @@ class DayBook:
         # The months that a site or a station has, and what was made of them since the last change.
         self.months = dict[tuple[str, str | None], list[date]]()
         self.made = dict[tuple[str, str | None, date], Any]()
+        # By site or station and Monday, weeks as they were drawn, each with what it was made of.
+        self.weeks = dict[tuple[str, str | None, date], tuple[Any, Any]]()
 
     def drop(self, site: Site, station: str, days: Iterable[date]) -> None:
         """Forgets days of a station that changed."""

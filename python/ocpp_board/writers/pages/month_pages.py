@@ -3,6 +3,7 @@
 from collections.abc import Mapping, Sequence
 from dataclasses import dataclass
 from datetime import date, timedelta
+from typing import NamedTuple
 
 from markupsafe import Markup
 
@@ -27,6 +28,8 @@ from ocpp_board.writers.pages.pictures import Scale
 
 # Months of a site that are looked for: a clock that is wrong by a century gives no more.
 MOST_MONTHS = 1_300
+# Weeks that are kept as they were drawn.
+MOST_WEEKS = 1_000
 NET_BAR = Column("Net as a bar", "bar wide", True)
 
 
@@ -51,6 +54,14 @@ class WeekPart:
     picture: Markup
     net: str
     peak: str
+
+
+class WeekFacts(NamedTuple):
+    """What the picture of a week depends on: its scale, and its days."""
+
+    up: int
+    down: int
+    days: Sequence[DayFacts]
 
 
 def find_months(context: Context, site: Site, station: str | None) -> list[date]:
@@ -169,11 +180,19 @@ def make_day_rows(
     return rows
 
 
-def make_weeks(context: Context, site: Site, days: Mapping[date, DayFacts]) -> list[WeekPart]:
+def make_weeks(
+    context: Context, site: Site, station: str | None, days: Mapping[date, DayFacts]
+) -> list[WeekPart]:
     """Makes the weeks of a month, the last one first."""
     calendar, found = context.calendar(site), list[WeekPart]()
     scale = Scale(hour.flow for facts in days.values() for hour in facts.hours)
+    drawn = context.book.weeks
     for monday, some in group_weeks(days):
+        key = site.name, station, monday
+        shown = WeekFacts(scale.up, scale.down, [days[day] for day in some])
+        if key in drawn and drawn[key][0] == shown:
+            found.append(drawn[key][1])
+            continue
         hours = [hour for day in some for hour in days[day].hours]
         peaks = [p for day in some if (p := days[day].peak)]
         peak = max(peaks, key=lambda p: p.flow.net, default=None)
@@ -188,6 +207,10 @@ def make_weeks(context: Context, site: Site, days: Mapping[date, DayFacts]) -> l
                 write_peak(peak, calendar, True),
             )
         )
+        if context.book.keeps:
+            if len(drawn) == MOST_WEEKS:
+                drawn.clear()
+            drawn[key] = shown, found[-1]
     return found[::-1]
 
 
@@ -216,5 +239,5 @@ def make_month_page(
         f"{month:%B %Y}",
         steps=steps,
         month=part,
-        weeks=make_weeks(context, site, part.days) if len(part.days) > 1 else [],
+        weeks=make_weeks(context, site, station, part.days) if len(part.days) > 1 else [],
     )
