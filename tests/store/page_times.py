@@ -20,9 +20,9 @@ from ocpp_board.writers.pages.list_pages import LISTS, make_list_page
 from ocpp_board.writers.pages.month_pages import make_month_page
 from ocpp_board.writers.pages.reader import Reader
 from ocpp_board.writers.pages.session_pages import make_session_page
-from ocpp_board.writers.pages.site_pages import make_index, make_site_page, read_site
+from ocpp_board.writers.pages.site_pages import make_index, make_site_page, read_sites
 from ocpp_board.writers.pages.station_pages import make_station_page
-from ocpp_board.writers.pages.summaries import Summaries, read_summaries
+from ocpp_board.writers.pages.summaries import read_summaries
 
 Page = Callable[[Context], object]
 
@@ -39,8 +39,7 @@ def make_pages(context: Context) -> dict[str, Page]:
     found = read_summaries(reader, site.name, station)[station]
 
     def make_all(one: Context) -> object:
-        summaries = Summaries(one.reader)
-        return make_index(one, [read_site(one, each, summaries) for each in one.reader.sites()])
+        return make_index(one, read_sites(one, one.reader.sites()))
 
     def make_site(one: Context) -> object:
         stations = read_summaries(one.reader, site.name)
@@ -94,7 +93,10 @@ def main() -> None:
                 took.append(1_000 * (time.perf_counter() - begun))
             size = len(str(page).encode())
             median, most = statistics.median(took), max(took)
-            print(f"{name:16} median {median:8.1f} ms, most {most:8.1f} ms, {size:9,} bytes")
+            print(
+                f"{name:16} median {median:8.1f} ms, most {most:8.1f} ms, {size:9,} bytes",
+                flush=True,
+            )
 
 
 if __name__ == "__main__":

@@ -1,19 +1,20 @@
 """Takes records of a source into a store: the plan first, then messages and operators' lines in batches."""
 
-from collections import Counter
+from collections import Counter, deque
 from collections.abc import Collection, Mapping
 from dataclasses import dataclass, field, replace
 
 from ocpp_board.commands.options import find_by_site
 from ocpp_board.ledger.engine import Pool, change_site, settle, take_strays
+from ocpp_board.ledger.settlers import Pending, Settlers
 from ocpp_board.records import Answer, Asked, Limits, Rules
 from ocpp_board.sources.script import Declaration
 from ocpp_board.sources.stations import PlanOptions
 from ocpp_board.store.database import Database
 from ocpp_board.store.plan import Author, find_rules, write_station
 
-# Records that are settled at once.
-BATCH = 65_536
+# Records that are settled at once, and how many such batches are under way at once where processes share them.
+BATCH, MOST_UNDER_WAY = 40_000, 3
 # The rules of a site of a script that declares none.
 OF_SCRIPTS = Rules(order="sequence", settle="later")
 
@@ -72,9 +73,17 @@ class Loader:
     """
 
     def __init__(
-        self, store: Database, wanted: Wanted, author: Author, pool: Pool | None = None
+        self,
+        store: Database,
+        wanted: Wanted,
+        author: Author,
+        pool: Pool | None = None,
+        settlers: Settlers | None = None,
     ) -> None:
+        """`pool`: processes that share the work of a batch; `settlers`: processes that settle what `submit` gets."""
         self.store, self.wanted, self.author, self.pool = store, wanted, author, pool
+        self.settlers = settlers
+        self.under_way = deque[tuple[list[Asked], Pending]]()
         self.counts = Counter[str]()
         self.changed = set[tuple[str, str | None]]()
         self.site_of = {
@@ -120,6 +129,27 @@ class Loader:
         for one, answer in zip(asked, answers):
             self.note(one.station, answer)
         return answers
+
+    def submit(self, asked: list[Asked]) -> None:
+        """Settles records, by processes that go on meanwhile where there are some. Raises StoreError and
+        ProgramError, also for records that were submitted before."""
+        if self.settlers is None:
+            self.settle(asked)
+            return
+        self.under_way.append((asked, self.settlers.submit(asked)))
+        if len(self.under_way) > MOST_UNDER_WAY:
+            self.take_answers()
+
+    def take_answers(self) -> None:
+        """Waits for the answers to the records that were submitted first."""
+        asked, pending = self.under_way.popleft()
+        for one, answer in zip(asked, pending.get()):
+            self.note(one.station, answer)
+
+    def finish(self) -> None:
+        """Waits for the answers to all records."""
+        while self.under_way:
+            self.take_answers()
 
     def note(self, station: str, answer: Answer) -> None:
         """Counts an answer, and notes what it changed."""

@@ -1,7 +1,7 @@
 """Renews pages and tables of what changed in a store."""
 
 import logging
-from collections.abc import Collection
+from collections.abc import Collection, Sequence
 from dataclasses import dataclass, replace
 from datetime import date, datetime, timedelta, timezone
 from pathlib import Path
@@ -9,7 +9,7 @@ from pathlib import Path
 from ocpp_board.store.database import Database, Row
 from ocpp_board.writers import pages
 from ocpp_board.writers.calendar import find_calendar
-from ocpp_board.writers.tables import FindingBook, Site, SiteTables, TableOptions, TableWriter
+from ocpp_board.writers.tables import Book, Site, SiteTables, TableOptions, TableWriter
 from ocpp_board.writers.tables import list_sites
 
 log = logging.getLogger(__name__)
@@ -44,7 +44,7 @@ class Renewer:
             tokens=shown.tables.tokens, refresh=max(1, round(shown.every)), oldest=shown.oldest
         )
         self.writer = pages.PageWriter(store, shown.out, self.options)
-        self.book = FindingBook(store)
+        self.book = Book(store)
         self.table_writer = TableWriter(store, shown.out, shown.tables)
         self.pages, self.tables = 0, 0
         # How many rows the tables without days had when they were written; None where that is not known.
@@ -132,7 +132,7 @@ class Renewer:
             days.setdefault(row.site, set()).update(list_days(site, row.first_at, row.last_at))
             stations.setdefault(row.site, set()).add(row.station)
         for name, some in days.items():
-            self.write_days(sites[name], some)
+            self.write_days(sites[name], some, sorted(stations[name]))
             if self.book.renew(name, sorted(stations[name])):
                 self.make_tables(sites[name], None).write_findings()
                 self.tables += 1
@@ -157,11 +157,13 @@ class Renewer:
         rows = self.store.fetch_each(asked, [{"station": station} for station in stations])
         return sorted({row.site for some in rows for row in some})
 
-    def write_days(self, site: Site, days: Collection[date]) -> None:
-        """Writes the tables of days. Raises OSError."""
+    def write_days(
+        self, site: Site, days: Collection[date], stations: Sequence[str] | None = None
+    ) -> None:
+        """Writes the tables of days. `stations`: those of which something changed. Raises OSError."""
         for day in sorted(days):
             one = self.make_tables(site, day)
-            one.write_periods()
+            one.write_periods(stations)
             one.write_transactions()
             one.write_signed()
             self.tables += 2

@@ -37,7 +37,7 @@ from ocpp_board.commands.options import (
 )
 from ocpp_board.commands.reading import BatchReader, Meter, ReadOptions
 from ocpp_board.errors import InputError
-from ocpp_board.ledger.engine import Pool
+from ocpp_board.ledger.settlers import Settlers
 from ocpp_board.ledger.verify import verify
 from ocpp_board.sources import forms
 from ocpp_board.sources.forms import Shape, choose_shape
@@ -180,10 +180,10 @@ def choose_options(parser: argparse.ArgumentParser, words: argparse.Namespace) -
 class Report:
     """Takes logs and scripts into a store, and writes what is to be seen of it."""
 
-    def __init__(self, options: Options, store: Database, pool: Pool | None) -> None:
-        self.options, self.store, self.pool = options, store, pool
+    def __init__(self, options: Options, store: Database, settlers: Settlers | None) -> None:
+        self.options, self.store, self.settlers = options, store, settlers
         author = Author("report", f"read from {', '.join(options.logs)}"[:200])
-        self.loader = Loader(store, options.wanted, author, pool)
+        self.loader = Loader(store, options.wanted, author, settlers=settlers)
         self.lines, self.untaken = 0, 0
 
     def read_all(self) -> None:
@@ -191,12 +191,13 @@ class Report:
         options = self.options
         asked = ReadOptions(options.shape, options.wanted.plan, options.is_utc, options.is_script)
         reader = BatchReader(asked, options.logs, self.loader.site_of)
-        for batch in run_ahead(reader.read, is_apart=self.pool is not None):
+        for batch in run_ahead(reader.read, is_apart=self.settlers is not None):
             self.lines += batch.lines
             self.untaken += batch.untaken
             self.loader.plan(batch.site_of, batch.rules)
             if batch.records:
-                self.loader.settle(batch.records)
+                self.loader.submit(batch.records)
+        self.loader.finish()
 
     def describe(self) -> str:
         """What became of all lines, in words."""
@@ -242,26 +243,36 @@ def open_pool(processes: int) -> Iterator[Any]:
 
 
 @contextlib.contextmanager
-def open_temporary(name: str | None) -> Iterator[Database]:
-    """The store of this name, or one in a temporary file. Raises StoreError."""
+def open_settlers(name: str, processes: int, is_durable: bool) -> Iterator[Settlers | None]:
+    """Processes that settle at once in a store; None for one."""
+    if processes == 1:
+        yield None
+        return
+    with Settlers(name, processes, is_durable) as settlers:
+        yield settlers
+
+
+@contextlib.contextmanager
+def name_store(name: str | None) -> Iterator[str]:
+    """The name of this store, or of one in a temporary file that goes at the end."""
     if name:
-        with open_store(name) as store:
-            yield store
+        yield name
         return
     with tempfile.TemporaryDirectory(prefix="ocpp-board-") as folder:
-        with open_store(str(Path(folder) / "store.db"), is_durable=False) as store:
-            yield store
+        yield str(Path(folder) / "store.db")
 
 
-def write_report(options: Options, store: Database, pool: Pool | None) -> int:
+def write_report(options: Options, name: str, store: Database) -> int:
     """Takes all logs into a store, verifies it, writes its tables and pages, and gives the exit status."""
-    report = Report(options, store, pool)
     options.out.mkdir(parents=True, exist_ok=True)
-    report.read_all()
+    with open_settlers(name, options.processes, options.store is not None) as settlers:
+        report = Report(options, store, settlers)
+        report.read_all()
     log.info("%s", report.describe())
     meter = Meter()
     meter.show("comparing the store with the program's boards")
-    verified = verify(store, pool=pool)
+    with open_pool(options.processes) as pool:
+        verified = verify(store, pool=pool)
     meter.end()
     if verified.difference:
         raise InputError(
@@ -320,5 +331,6 @@ def run(words: argparse.Namespace) -> int:
     """Does what the words ask for, and gives the exit status."""
     options = choose_options(words.parser, words)
     choose_program(words.program)
-    with open_pool(options.processes) as pool, open_temporary(options.store) as store:
-        return write_report(options, store, pool)
+    with name_store(options.store) as name:
+        with open_store(name, is_durable=options.store is not None) as store:
+            return write_report(options, name, store)

@@ -24,9 +24,9 @@ from ocpp_board.writers.pages.list_pages import LISTS, make_list_page
 from ocpp_board.writers.pages.month_pages import make_month_page
 from ocpp_board.writers.pages.reader import Reader
 from ocpp_board.writers.pages.session_pages import make_session_page
-from ocpp_board.writers.pages.site_pages import make_index, make_site_page, read_site
+from ocpp_board.writers.pages.site_pages import make_index, make_site_page, read_sites
 from ocpp_board.writers.pages.station_pages import make_station_page
-from ocpp_board.writers.pages.summaries import Summaries, read_summaries
+from ocpp_board.writers.pages.summaries import read_summaries
 from starlette.concurrency import run_in_threadpool
 from starlette.requests import Request as HttpRequest
 
@@ -100,12 +100,8 @@ def show_index(asked: Request) -> Response:
     """All sites that the operator sees."""
     with asked.store.snapshot():
         context = make_context(asked)
-        summaries = Summaries(context.reader)
-        facts = [
-            read_site(context, site, summaries)
-            for site in context.reader.sites()
-            if asked.operator.sees(site.name)
-        ]
+        sites = [site for site in context.reader.sites() if asked.operator.sees(site.name)]
+        facts = read_sites(context, sites)
         strays = context.reader.count_strays() if asked.operator.sites is None else 0
         return show(make_index(context, facts, strays))
 

@@ -14,8 +14,10 @@ not at all.
 """
 
 import csv
+import io
 import json
 import os
+from collections import OrderedDict
 from collections.abc import Callable, Collection, Iterable, Iterator, Sequence
 from dataclasses import dataclass
 from datetime import date, datetime, timedelta, timezone
@@ -42,6 +44,8 @@ from ocpp_board.writers.files import name_file
 LONGEST_PAUSE = 62
 # How many moments and periods have their cells kept.
 KEPT = 131_072
+# Days of sites whose rows of periods are kept where tables are written again.
+MOST_DAYS = 8
 # The time of an operator's line whose source has none.
 NO_TIME = datetime(2000, 1, 1, tzinfo=timezone.utc)
 FLOWS = [
@@ -100,14 +104,24 @@ class Site(NamedTuple):
     settle: str
 
 
-def write_csv(path: Path, heads: Sequence[str], rows: Iterable[Iterable[Cell]]) -> None:
-    """Writes a CSV file, which is there whole or not at all. Raises OSError."""
+def write_csv(
+    path: Path, heads: Sequence[str], rows: Iterable[Iterable[Cell]], texts: Iterable[str] = ()
+) -> None:
+    """Writes a CSV file, which is there whole or not at all. `texts`: further rows as text. Raises OSError."""
     made = path.with_name(f".{path.name}.made")
     with open(made, "w", encoding="utf-8", newline="") as file:
         table = csv.writer(file, lineterminator="\n")
         table.writerow(heads)
         table.writerows(rows)
+        file.writelines(texts)
     os.replace(made, path)
+
+
+def write_text(rows: Iterable[Iterable[Cell]]) -> str:
+    """Rows of a CSV file as text."""
+    text = io.StringIO(newline="")
+    csv.writer(text, lineterminator="\n").writerows(rows)
+    return text.getvalue()
 
 
 @lru_cache(KEPT)
@@ -196,11 +210,11 @@ class SiteTables:
         site: Site,
         options: TableOptions,
         day: date | None = None,
-        book: "FindingBook | None" = None,
+        book: "Book | None" = None,
     ) -> None:
         """`day`: tables have only what began on this day of the site's zone; `book`: findings that were read before."""
         self.store, self.site, self.options, self.day = store, site, options, day
-        self.book = book or FindingBook(store)
+        self.book = book or Book(store)
         self.calendar = find_calendar(site.zone)
         self.folder = out / name_file(site.site)
         self.order = "by moment" if site.reading_order == "moment" else "by sequence"
@@ -238,57 +252,52 @@ class SiteTables:
 
     # Periods ----------------------------------------------------------------------------------------------------------
 
-    def write_periods(self) -> None:
-        """Writes the table of periods. Raises OSError."""
+    def write_periods(self, stations: Iterable[str] | None = None) -> None:
+        """Writes the table of periods. `stations`: those of which something changed, where the book has the others.
+        Raises OSError."""
         zones = ["UTC"] if self.calendar.is_utc else ["UTC", self.site.zone]
         times = [f"period {end} ({zone})" for end in ("start", "end") for zone in zones]
         heads = ["level", "site", "station", "EVSE", "seconds", *times, "period", *FLOWS]
         heads += ["net (kWh)", "figure", "shared by time (kWh)", "numbers missing"]
-        write_csv(self.path("periods"), [*heads, "readings", "settle"], self.list_periods())
+        heads += ["readings", "settle"]
+        if stations is None:
+            write_csv(self.path("periods"), heads, self.list_periods())
+            return
+        site = self.write_rows("site", "", "", self.fetch_periods("starts"), None)
+        write_csv(self.path("periods"), heads, site, self.book.read_periods(self, stations))
 
     def list_periods(self) -> Iterator[list[Cell]]:
         """The rows of the table of periods: those of the site, then each station's and its EVSEs'."""
-        sums = (
-            "cast(sum(up) as bigint) as up, cast(sum(down) as bigint) as down, "
-            "cast(sum(export_up) as bigint) as export_up, "
-            "cast(sum(export_down) as bigint) as export_down, max(estimated) as estimated, "
-            "cast(sum(shared) as bigint) as shared, max(lacks_numbers) as lacks_numbers"
-        )
-        span = self.span_of_rows()
-        where = f"from evse_period where site = :site {span[0]}"
-        site = self.store.fetch(
-            f"select starts, {sums} {where} group by starts order by starts",
-            site=self.site.site,
-            **span[1],
-        )
+        site = self.fetch_periods("starts")
         starts = self.list_starts(site) if self.options.all_periods else None
         yield from self.write_rows("site", "", "", site, starts)
-        stations = group_rows(
-            self.store.fetch(
-                f"select station, starts, {sums} {where} group by station, starts order by station, starts",
-                site=self.site.site,
-                **span[1],
-            ),
-            lambda row: row.station,
+        for station in self.list_stations():
+            yield from self.list_station(station, starts)
+
+    def list_station(
+        self, station: str, starts: Sequence[datetime] | None = None
+    ) -> Iterator[list[Cell]]:
+        """The rows of a station and of its EVSEs. `starts`: as in `write_rows`."""
+        evses = group_rows(self.fetch_periods("evse, starts", station), lambda row: row.evse)
+        rows = self.fetch_periods("starts", station) if evses else []
+        yield from self.write_rows("station", station, "", rows, starts)
+        for evse, some in evses.items():
+            yield from self.write_rows("EVSE", station, evse, some, starts)
+
+    def fetch_periods(self, columns: str, station: str | None = None) -> list[Row]:
+        """The energy of the periods of the site or of a station, by these columns."""
+        text, values = self.span_of_rows()
+        if station is not None:
+            text, values = f"and station = :station {text}", values | {"station": station}
+        return self.store.fetch(
+            f"select {columns}, cast(sum(up) as bigint) as up, cast(sum(down) as bigint) as down, "
+            "cast(sum(export_up) as bigint) as export_up, "
+            "cast(sum(export_down) as bigint) as export_down, max(estimated) as estimated, "
+            "cast(sum(shared) as bigint) as shared, max(lacks_numbers) as lacks_numbers "
+            f"from evse_period where site = :site {text} group by {columns} order by {columns}",
+            site=self.site.site,
+            **values,
         )
-        evses = group_rows(
-            self.store.fetch(
-                "select station, evse, starts, up, down, export_up, export_down, estimated, shared, lacks_numbers "
-                f"{where} order by station, evse, starts",
-                site=self.site.site,
-                **span[1],
-            ),
-            lambda row: (row.station, row.evse),
-        )
-        names = [name for name in self.list_stations() if name in stations or starts]
-        of_station: dict[str, list[int]] = {}
-        for station, evse in evses:
-            of_station.setdefault(station, []).append(evse)
-        for name in names:
-            rows = stations.get(name, [])
-            yield from self.write_rows("station", name, "", rows, starts)
-            for evse in of_station.get(name, []):
-                yield from self.write_rows("EVSE", name, evse, evses[name, evse], starts)
 
     def span_of_rows(self) -> tuple[str, dict[str, Any]]:
         """What keeps periods to the days that are shown, and its values."""
@@ -507,8 +516,9 @@ class SiteTables:
         return [write_utc(row.at), *map(self.cell, names)]
 
 
-class FindingBook:
-    """What is doubtful at sites, read once, and again of stations of which something changed."""
+class Book:
+    """What tables that are written again have: findings of sites, and rows of the periods of days. It is read once, and
+    again of stations of which something changed."""
 
     STATEMENT = (
         "select f.site, f.station, f.transaction_id, f.kind, f.times, f.first_at, f.detail, "
@@ -518,8 +528,22 @@ class FindingBook:
 
     def __init__(self, store: Database) -> None:
         self.store = store
-        # By site and station.
+        # Findings by site and station.
         self.sites: dict[str, dict[str, list[Row]]] = {}
+        # Rows of periods by site and day, and by station; the days that were written last are kept.
+        self.days = OrderedDict[tuple[str, date | None], dict[str, str]]()
+
+    def read_periods(self, tables: "SiteTables", stations: Iterable[str]) -> Iterable[str]:
+        """The rows of the periods of the stations of a site's day, those of these stations as they are by now."""
+        key = tables.site.site, tables.day
+        names = stations if key in self.days else tables.list_stations()
+        known = self.days.setdefault(key, {})
+        for station in names:
+            known[station] = write_text(tables.list_station(station))
+        self.days.move_to_end(key)
+        if len(self.days) > MOST_DAYS:
+            self.days.popitem(last=False)
+        return known.values()
 
     def read(self, site: str) -> list[Row]:
         """What is doubtful at a site."""

@@ -329,6 +329,33 @@ class Reader:
         )
         return int(rows[0][0] or 0)
 
+    def count_all_refused(self) -> dict[str, int]:
+        """How many messages of each site's stations changed nothing."""
+        rows = self.store.fetch("select site, sum(times) as times from refused group by site")
+        return {row[0]: int(row[1]) for row in rows}
+
+    def count_lacking(self, site: str) -> int:
+        """How many sessions of a site are not complete."""
+        sql = "select count(*) as times from session where site = :site and not complete and events > 0"
+        return int(self.store.fetch(sql, site=site)[0][0])
+
+    def count_stations(self, site: str) -> int:
+        """How many stations the plan has at a site."""
+        sql = "select count(*) as times from station where site = :site"
+        return int(self.store.fetch(sql, site=site)[0][0])
+
+    def totals_since(self, site: str, since: datetime) -> Totals:
+        """The figures of a site's sessions that ran after a moment."""
+        rows = self.store.fetch(
+            "select count(*) as transactions, sum(case when complete then 1 else 0 end) as completed, "
+            "sum(events) as events, sum(voided) as voided, sum(missing) as missing, sum(up) as up, "
+            "sum(down) as down, sum(export_up) as export_up, sum(export_down) as export_down "
+            "from session where site = :site and last_at > :since and events > 0",
+            site=site,
+            since=since,
+        )
+        return make_totals(rows[0])
+
     def deeds(self, site: str, count: int, skipped: int = 0) -> list[AnsweredDeed]:
         """What operators did at a site's stations, the latest first."""
         sql = (

@@ -2,7 +2,7 @@
 
 from collections.abc import Iterable, Mapping, Sequence
 from dataclasses import dataclass
-from datetime import date
+from datetime import date, datetime, timedelta
 from heapq import nsmallest
 
 from markupsafe import Markup
@@ -28,7 +28,6 @@ from ocpp_board.writers.pages.kinds import NAMES, explain, find_place
 from ocpp_board.writers.pages.month_pages import find_month, find_months
 from ocpp_board.writers.pages.sessions import make_session_table
 from ocpp_board.writers.pages.summaries import (
-    Summaries,
     is_troubled,
     order_stations,
     order_worst,
@@ -42,13 +41,13 @@ SITES = make_columns(
     "Site",
     Column("Stations", "wide"),
     "Net, kWh",
-    "Complete",
     "Sessions",
-    "Missing numbers",
-    "Doubtful sessions",
+    "Complete",
+    "Sessions that lack messages",
     "Refused messages",
     " Data up to",
 )
+DAY = timedelta(days=1)
 
 
 def has_export(totals: Totals) -> bool:
@@ -78,63 +77,58 @@ def make_figures(totals: Totals) -> list[Figure]:
 
 @dataclass
 class SiteFacts:
-    """What the page of all sites shows of a site."""
+    """What the page of all sites shows of a site: its last day, and what it lacks of all days."""
 
     site: Site
-    totals: Totals
     stations: int
-    doubtful: int
+    totals: Totals
+    lacking: int
     refused: int
-    until: str
-    is_marked: bool
+    until: datetime | None
 
 
-def read_site(context: Context, site: Site, summaries: Summaries) -> SiteFacts:
-    """Reads what the page of all sites shows of a site."""
-    stations = summaries.site(site.name)
-    last = context.reader.last_moment(site.name)
-    refused = context.reader.count_refused(site.name)
-    return SiteFacts(
-        site,
-        sum_totals(stations.values()),
-        len(stations),
-        sum(one.doubtful for one in stations.values()),
-        refused,
-        find_calendar(site.zone).minute(last) if last else UNKNOWN,
-        bool(refused) or any(map(is_troubled, stations.values())),
-    )
+def read_sites(context: Context, sites: Sequence[Site]) -> list[SiteFacts]:
+    """Reads what the page of all sites shows of each. Nothing is read of days before the last one but what an index
+    counts, so that it is as quick with years of sessions."""
+    reader, refused = context.reader, context.reader.count_all_refused()
+    found = list[SiteFacts]()
+    for site in sites:
+        last = reader.last_moment(site.name)
+        totals = reader.totals_since(site.name, last - DAY) if last else Totals()
+        numbers = reader.count_stations(site.name), totals, reader.count_lacking(site.name)
+        found.append(SiteFacts(site, *numbers, refused.get(site.name, 0), last))
+    return found
 
 
 def make_index(context: Context, facts: Sequence[SiteFacts], strays: int = 0) -> Markup:
     """Makes the page of all sites."""
-    rows = [make_site_row(context, one) for one in facts]
     return context.render(
         "index.html",
         "All sites",
         find_calendar("UTC"),
-        caption="Figures of all sessions",
+        caption="The last 24 hours with data of each site; what lacks messages and what was refused is of all days",
         columns=SITES,
-        rows=rows,
+        rows=[make_site_row(context, one) for one in facts],
         strays=strays,
     )
 
 
 def make_site_row(context: Context, one: SiteFacts) -> TableRow:
     """Makes the row of a site."""
-    totals, links = one.totals, context.links
-    refused = f"{one.refused:,}"
+    name, totals, links = one.site.name, one.totals, context.links
+    lacking, refused = f"{one.lacking:,}", f"{one.refused:,}"
+    until = find_calendar(one.site.zone).minute(one.until) if one.until else UNKNOWN
     cells = [
-        link(links.site(one.site.name), one.site.name),
+        link(links.site(name), name),
         f"{one.stations:,}",
         kwh(totals.flow.net),
-        share(totals.complete, totals.transactions) or UNKNOWN,
         f"{totals.transactions:,}",
-        f"{totals.missing:,}",
-        f"{one.doubtful:,}",
-        link(links.listing(one.site.name, "refused"), refused) if one.refused else refused,
-        wrap_time(one.until),
+        share(totals.complete, totals.transactions) or UNKNOWN,
+        link(links.listing(name, "lacking"), lacking) if one.lacking else lacking,
+        link(links.listing(name, "refused"), refused) if one.refused else refused,
+        wrap_time(until),
     ]
-    return TableRow(cells, MARK if one.is_marked else "")
+    return TableRow(cells, MARK if one.lacking or one.refused else "")
 
 
 # A site ---------------------------------------------------------------------------------------------------------------

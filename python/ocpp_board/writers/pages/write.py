@@ -33,7 +33,7 @@ from ocpp_board.writers.pages.month_pages import find_days, find_months, make_mo
 from ocpp_board.writers.pages.reader import Reader
 from ocpp_board.writers.pages.session_pages import make_session_page, read_span
 from ocpp_board.writers.pages.sessions import group_findings
-from ocpp_board.writers.pages.site_pages import SiteFacts, make_index, make_site_page, read_site
+from ocpp_board.writers.pages.site_pages import SiteFacts, make_index, make_site_page, read_sites
 from ocpp_board.writers.pages.station_pages import make_station_page
 from ocpp_board.writers.pages.summaries import Summaries
 
@@ -142,12 +142,12 @@ class PageWriter:
                 key = session.station, session.transaction_id
                 self.write_session(site, session, findings.get(key, ()))
 
-    def write_index(self, sites: Iterable[Site]) -> None:
-        """Writes the page of all sites. Raises OSError."""
+    def write_index(self, sites: Sequence[Site], changed: Collection[str] | None = None) -> None:
+        """Writes the page of all sites. `changed`: those that changed; None for all. Raises OSError."""
         context = self.open_context("index.html")
-        for site in sites:
-            if site.name not in self.facts:
-                self.facts[site.name] = read_site(context, site, self.summaries)
+        again = [site for site in sites if changed is None or site.name in changed]
+        again += [site for site in sites if site.name not in self.facts and site not in again]
+        self.facts |= {one.site.name: one for one in read_sites(context, again)}
         strays = self.reader.count_strays()
         facts = [self.facts[site.name] for site in sites]
         self.write("index.html", lambda context: make_index(context, facts, strays))
@@ -241,9 +241,7 @@ class PageWriter:
             days = set[date]().union(*(places[name, station] for station in stations))
             self.write_site_changed(sites[name], days, before[name], changed)
         if changed:
-            for name in touched:
-                self.facts.pop(name, None)
-            self.write_index(sites.values())
+            self.write_index([*sites.values()], touched)
         return self.count
 
     def find_doubted(
