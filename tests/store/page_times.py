@@ -93,7 +93,7 @@ def main() -> None:
                 took.append(1_000 * (time.perf_counter() - begun))
                 worked.append(1_000 * (time.process_time() - before))
             size = len(str(page).encode())
-            median, most = map(statistics.median, (took, worked))
+            median, most = statistics.median(took), statistics.median(worked)
             times = f"{median:8.1f} ms, {most:8.1f} ms of a processor"
             print(f"{name:16} {times}, {size:9,} bytes", flush=True)
 

@@ -187,9 +187,9 @@ class Reader:
     def day_periods(
         self, site: Site, stations: Sequence[str], begin: datetime, end: datetime
     ) -> dict[str, list[Period]]:
-        """The periods of some stations of a site from one moment to another. Each station is named, so that the index by
-        station and time serves; what is asked of the site is written so that its index, which has all years, does not.
-        """
+        """The periods of some stations of a site from one moment to another. Each station is named, so that the index
+        by station and time serves; what is asked of the site is written so that its index, which has all years, does
+        not."""
         found = dict[str, list[Period]]()
         for first in range(0, len(stations), MOST_NAMES):
             names = dict(zip(NAMES, stations[first : first + MOST_NAMES]))
