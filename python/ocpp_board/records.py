@@ -2,6 +2,7 @@
 
 from dataclasses import dataclass
 from datetime import datetime
+from typing import NamedTuple
 
 # The deeds of operators.
 DEEDS = ("void", "restore", "erase")
@@ -56,7 +57,7 @@ class Untaken:
 Asked = Message | Deed | Untaken
 
 
-@dataclass(frozen=True, slots=True)
+@dataclass(slots=True)
 class Answer:
     """What became of what was asked.
 
@@ -95,8 +96,7 @@ class Rules:
     most_kw: int = 400
 
 
-@dataclass(frozen=True, slots=True)
-class Line:
+class Line(NamedTuple):
     """A line that changed a transaction. `text`: `deliver STATION MESSAGE`, or `void STATION TRANSACTION NUMBER` and
     so on; `number`: its place among the lines of its transaction, from 1."""
 

@@ -1,5 +1,5 @@
-"""Drawn scripts, with voids, conflicts, repeats, faults and lines of all kinds: settled in drawn batches by a store they
-get the answers of one whole script, and the store shows the figures of its boards."""
+"""Drawn scripts, with voids, conflicts, repeats, faults and lines of all kinds: settled in drawn batches, they get the
+answers of one whole script, and the store shows the figures of its boards."""
 
 import random
 from collections.abc import Iterator
@@ -14,12 +14,11 @@ from ocpp_board.ledger.verify import verify
 from ocpp_board.records import DEEDS, Answer, Asked, Deed, Message, Rules
 from ocpp_board.store.database import Database
 from ocpp_board.store.plan import write_station
-from tests.drawn_scripts import drawn
+from tests.drawn_scripts import pool_of
 from tests.store.scene import AUTHOR
 
-# Scripts of the SQLite store and of the PostgreSQL one, and bytes of each.
+# Scripts of the SQLite store and of the PostgreSQL one.
 SCRIPTS = {"sqlite": 300, "postgresql": 40}
-LEAST, MOST = 4_000, 30_000
 
 
 class Drawn(NamedTuple):
@@ -32,18 +31,27 @@ class Drawn(NamedTuple):
     lines: list[str]
 
 
+def draw_lines(draws: random.Random, stations: list[str]) -> Iterator[str]:
+    """Lines of all kinds, a few of them again and again, with an operator's lines on events that came and others."""
+    pool = draws.sample(pool_of(draws, stations), 80)
+    for _ in range(draws.randrange(20, 160)):
+        if draws.randrange(5):
+            yield draws.choice(pool)
+        else:
+            word, station = draws.choice(DEEDS), draws.choice(stations)
+            yield f"{word} {station} T{draws.randrange(4)} {draws.randrange(60)}"
+
+
 def draw(seed: int) -> Drawn:
     """The script of a seed."""
     draws = random.Random(seed)
-    stations = [f"S{number}-{seed}" for number in range(draws.choice([1, 3, 16]))]
+    stations = [f"S{number}-{seed}" for number in range(draws.choice([1, 1, 3, 16]))]
     found, received = Drawn({}, {}, [], []), None
-    script = drawn(draws, stations, draws.randrange(LEAST, MOST), draws.random())
-    for number, line in enumerate(script):
+    for number, station in enumerate(stations):
+        found.stations[station] = f"{'north' if number % 3 else 'south'}-{seed}"
+    for number, line in enumerate(draw_lines(draws, stations)):
         word, _, rest = line.rstrip("\r\n").partition(" ")
-        if word == "station" and rest.endswith(f"-{seed}") and not found.asked:
-            site, station = rest.split(" ")
-            found.stations[station] = f"{site}-{seed}"
-        elif word == "now":
+        if word == "now":
             received = datetime.fromisoformat(rest.replace("Z", "+00:00"))
             found.lines.append(line.rstrip("\r\n"))
         elif word == "msg" and " " in rest:

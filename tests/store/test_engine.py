@@ -14,6 +14,7 @@ import pytest
 
 from ocpp_board.errors import StoreError
 from ocpp_board.ledger.engine import change_site, settle, take_strays
+from ocpp_board.ledger.settlers import Settlers
 from ocpp_board.records import Asked, Limits, Message, Rules, Untaken
 from ocpp_board.store.database import Database, open_store
 from ocpp_board.store.plan import retire_station, write_station
@@ -338,6 +339,27 @@ def test_pool(store: Database) -> None:
     check(store)
 
 
+def test_settlers(store: Database, store_name: str) -> None:
+    """Processes that settle at once, each its own stations, leave what one leaves, and answer in order."""
+    plan(store, Rules(), "north", *(f"CS-{number:02}" for number in range(20)))
+    lines: list[Asked] = [
+        one
+        for number in range(60)
+        for one in write_session(f"CS-{number % 20:02}", f"T{number}", 4, number)
+    ]
+    lines += [deed("void", "CS-01", "T1", 1), message("CS-77", HEARTBEAT), lines[0]]
+    lines.append(message("CS-02", write_event("T2", 1, "Ended", 7), 9))
+    alone = settle(store, lines)
+    rows = read_all(store)
+    for table in ("line", "part", "finding", "session", "refusal", "deed"):
+        store.execute(f"delete from {table}")
+    with Settlers(store_name, 3) as settlers:
+        pending = [settlers.submit(lines[at : at + 100]) for at in range(0, len(lines), 100)]
+        assert [answer for one in pending for answer in one.get()] == alone
+    assert read_all(store) == rows
+    check(store)
+
+
 def test_what_commits_beside_it(store: Database) -> None:
     """What is written beside the lines is committed with them, or not at all."""
     plan(store)
@@ -389,6 +411,7 @@ def test_retired_station(store: Database) -> None:
 
 WRITER = """
 import sys
+from contextlib import nullcontext
 from ocpp_board.ledger.engine import settle
 from ocpp_board.store.database import open_store
 from tests.store.scene import deed, write_session
@@ -399,7 +422,7 @@ if which:
 with open_store(name) as store:
     print("open", flush=True)
     for at in range(0, len(lines), 3):
-        answers = settle(store, lines[at : at + 3])
+        answers = settle(store, lines[at : at + 3], guard=nullcontext() if which else None)
         print(" ".join(one.outcome for one in answers), flush=True)
 """
 

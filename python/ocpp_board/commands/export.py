@@ -20,7 +20,6 @@ from ocpp_board.commands.options import add_store
 from ocpp_board.errors import InputError, UsageError
 from ocpp_board.ledger.rows import DELIVER
 from ocpp_board.ledger.scripts import Script, part_scripts
-from ocpp_board.ledger.verify import LINES
 from ocpp_board.replay.script_lines import texts_comment
 from ocpp_board.statuses import Status
 from ocpp_board.store.database import Database, Row, open_store
@@ -29,6 +28,11 @@ from ocpp_board.store.plan import find_rules
 ENDING = """\
 Exit status: 0 when it was written; 1 when the store has no such site, station or transaction; 2 when the words are
 wrong or the store or a file can't be used."""
+LINES = """
+select l.station, l.transaction_id, l.number, l.line, l.received, l.who, l.why from session s
+join line l on l.station = s.station and l.transaction_id = s.transaction_id
+where s.site = :site order by l.station, l.transaction_id, l.number
+"""
 OF_STATION = """
 select station, transaction_id, site from session where station = :station order by site, transaction_id
 """

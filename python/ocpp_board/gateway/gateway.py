@@ -43,6 +43,8 @@ AHEAD = 4
 READ, WRITE = 16_384, 65_536
 # Seconds between pings to a station, and for its pong.
 PING = 300
+# Seconds between looks at what the store says of itself.
+FIGURES = 30
 # Seconds for connections to end in, at the end.
 LAST = 5
 # Connections that wait to be accepted.
@@ -85,6 +87,8 @@ class Gateway:
         self.let_in = 0
         self.counts = Counter[str]()
         self.repeated = Repeated()
+        # Messages of stations that no site has, and seconds since the last closing of sites.
+        self.strays, self.closing_ages = 0, dict[str, float]()
         self.jobs: set[asyncio.Task[Any]] = set()
         self.is_ending = asyncio.Event()
         # When the event loop ran last.
@@ -185,6 +189,15 @@ class Gateway:
             self.ran = time.monotonic()
             await asyncio.sleep(1)
 
+    async def read_figures(self) -> None:
+        """Reads what the store says of itself, for who watches."""
+        while self.options.metrics:
+            try:
+                self.strays, self.closing_ages = await self.clerk.run(stations.read_figures)
+            except StoreError as fault:
+                log.debug("%s", fault)
+            await asyncio.sleep(FIGURES)
+
     async def wait_for_store(self) -> None:
         """Waits until the store answers: stations that come before would be sent away."""
         last = ""
@@ -237,7 +250,13 @@ class Gateway:
         async with asyncio.TaskGroup() as group:
             jobs = [
                 group.create_task(job())
-                for job in (self.lanes.run, self.finder.run, self.lookout.run, self.tick)
+                for job in (
+                    self.lanes.run,
+                    self.finder.run,
+                    self.lookout.run,
+                    self.tick,
+                    self.read_figures,
+                )
             ]
             await self.is_ending.wait()
             server.close()  # Stations go away with close code 1001, and come again elsewhere.

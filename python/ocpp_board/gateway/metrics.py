@@ -92,6 +92,17 @@ class Figures:
         yield often
         paced = "How often a station had to wait because it sent too much."
         yield counter("paced", paced, gateway.counts["paced"])
+        yield gauge("lanes", "Batches that may be settled at once.", len(lanes.lanes))
+        strays = "Messages of stations that no site has."
+        yield gauge("store_strays", strays, gateway.strays)
+        ages = GaugeMetricFamily(
+            FRONT + "store_closing_age_seconds",
+            "Seconds since the last closing of a site.",
+            labels=["site"],
+        )
+        for site, age in gateway.closing_ages.items():
+            ages.add_metric([site], age)
+        yield ages
         counts = lanes.counts
         yield counter("batches", "Batches that were settled or tried.", counts["batches"])
         failed = "Batches that the store did not take, and that were tried again."

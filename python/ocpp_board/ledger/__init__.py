@@ -9,6 +9,7 @@
     refusals    why a message was refused, in words
     engine      settles texts and operators' lines in a store, and answers them
     scripts     whole scripts of a site's lines
+    settlers    processes that settle at once
     verify      compares a store's views with the boards of whole scripts
 
 Only `engine` and `verify` know the store. A transaction's figures depend on its own lines only.

@@ -148,53 +148,85 @@ def read_wish(line: str) -> Wish:
     raise ProgramError(f"the program wrote {line[:80]!r}, which answers no line `asks`")
 
 
+@lru_cache(KEPT)
+def read_listed(line: str) -> Listed:
+    """A line of a list of events."""
+    _, number, kind, at, evse, *_ = line.split(" ")
+    return Listed(int(number), kind, read_seconds(at), int(evse[5:]))
+
+
+@lru_cache(KEPT)
+def read_placed(line: str) -> Placed:
+    """A line of a list of readings that has one."""
+    word, place, at, level, *_ = line.split(" ")
+    number, _, rank = place.partition(".")
+    return Placed(int(number), int(rank), Reading(read_seconds(at), int(level), REGISTERS[word]))
+
+
+@lru_cache(KEPT)
+def read_period(line: str) -> tuple[int, Flow]:
+    """A line of a board with a period: its beginning in seconds since 1970, and its energy."""
+    _, start, *words = line.split(" ")
+    return int(read_seconds(start)), Flow(*read_numbers(words))
+
+
 class AnswerReader:
     """Reads what the program wrote of a script, answer by answer, in the order of its lines."""
 
     def __init__(self, text: bytes) -> None:
-        self.lines: Iterator[str] = iter(text.decode("utf-8").split("\n"))
+        self.lines = text.decode("utf-8").split("\n")
+        self.at = 0
 
     def read(self) -> str:
         """The next line. Raises ProgramError where there is none."""
-        line = next(self.lines, "")
-        if not line:
+        # Behind the last line feed is an empty text.
+        if self.at >= len(self.lines) - 1:
             raise ProgramError("the program wrote fewer answers than the script has lines")
-        return line
+        self.at += 1
+        return self.lines[self.at - 1]
+
+    def read_some(self, count: int) -> list[str]:
+        """So many lines. Raises ProgramError where there are fewer."""
+        lines = self.lines[self.at : self.at + count]
+        self.at += count
+        if self.at >= len(self.lines):
+            raise ProgramError("the program wrote fewer answers than the script has lines")
+        return lines
 
     def read_list(self, word: str) -> Iterator[str]:
-        """The lines of a board or list behind its first one, up to the line `end`; none of a fault."""
+        """The lines of a board or list, up to its line `end`; none of a fault."""
         line = self.read()
         if line.startswith("fault "):
-            return
+            return iter(())
         if not line.startswith(word):
             raise ProgramError(f"the program wrote {line[:80]!r} where `{word}` begins")
-        yield line
-        for line in self.lines:
-            if line == "end":
-                return
-            yield line
-        raise ProgramError(f"the program ended within `{word}`")
+        first = self.at - 1
+        try:
+            end = self.lines.index("end", first)
+        except ValueError:
+            raise ProgramError(f"the program ended within `{word}`") from None
+        self.at = end + 1
+        return iter(self.lines[first:end])
 
-    def read_answer(self) -> LineAnswer:
-        """The next line, which answers a text or an operator's line."""
-        return read_line_answer(self.read())
-
-    def read_board(self) -> Board:
-        """The next board."""
+    def read_board(self, has_own: bool = True) -> Board:
+        """The next board. `has_own`: with the periods of the site."""
         lines = self.read_list("board ")
         board = Board(next(lines, "board").split(" ")[1])
         part, transaction = board.own, ""
         for line in lines:
+            if line.startswith("period "):
+                if has_own or part is not board.own:
+                    start, flow = read_period(line)
+                    part.periods[start] = flow
+                continue
             words = line.split(" ")
             word = words[0]
-            if word == "period":
-                part.periods[int(read_seconds(words[1]))] = Flow(*read_numbers(words[2:]))
-            elif word == "tx":
+            if word == "tx":
                 transaction = words[1]
                 evse, events, first, last = read_numbers(words[2:6])
-                missing, *flow = read_numbers(words[7:])
+                missing, *energy = read_numbers(words[7:])
                 part.transactions[transaction] = Figures(
-                    evse, events, first, last, words[6] == "complete=yes", missing, Flow(*flow)
+                    evse, events, first, last, words[6] == "complete=yes", missing, Flow(*energy)
                 )
             elif word == "gap":
                 first, last = map(int, words[1].split(".."))
@@ -203,8 +235,8 @@ class AnswerReader:
                 part.evses[int(words[1])] = Flow(*read_numbers(words[2:]))
             elif word == "total":
                 numbers = read_numbers(words[1:])
-                events, voided, transactions, complete, missing, *flow = numbers
-                part.total = Total(events, voided, transactions, complete, missing, Flow(*flow))
+                events, voided, transactions, complete, missing, *energy = numbers
+                part.total = Total(events, voided, transactions, complete, missing, Flow(*energy))
             elif word == "station":
                 part = board.stations[words[1]] = BoardPart()
             else:
@@ -213,21 +245,16 @@ class AnswerReader:
 
     def read_events(self) -> list[Listed]:
         """The live events of the next list of events; none of an unknown transaction."""
-        found = list[Listed]()
-        for line in self.read_list("events "):
-            if line.endswith(" live") and line.startswith("event "):
-                _, number, kind, at, evse, *_ = line.split(" ")
-                found.append(Listed(int(number), kind, read_seconds(at), int(evse[5:])))
-        return found
+        return [read_listed(line) for line in self.read_list("events ") if line.endswith(" live")]
 
     def read_readings(self) -> tuple[list[Placed], list[Placed]]:
         """The readings of the next list of readings, of the import and of the export register."""
         found = list[Placed](), list[Placed]()
-        for line in self.read_list("readings "):
-            word, *words = line.split(" ")
-            if word in REGISTERS:
-                is_export = REGISTERS[word]
-                number, _, place = words[0].partition(".")
-                reading = Reading(read_seconds(words[1]), int(words[2]), is_export)
-                found[is_export].append(Placed(int(number), int(place), reading))
+        lines = self.read_list("readings ")
+        next(lines, None)
+        for line in lines:
+            # What is of a register is a reading, and else a part of a period.
+            if not line.startswith("part "):
+                placed = read_placed(line)
+                found[placed.reading.is_export].append(placed)
         return found

@@ -7,13 +7,14 @@ answer is given only after the commit. A failure gives none, and the same may co
 
 import re
 from collections.abc import Callable, Iterable, Iterator, Sequence
+from contextlib import AbstractContextManager, nullcontext
 from dataclasses import dataclass, field
 from datetime import datetime, timezone
 from functools import partial
 from operator import attrgetter
 from typing import Any, NamedTuple, Protocol
 
-from ocpp_board.ledger.answers import LineAnswer, Wish
+from ocpp_board.ledger.answers import Wish
 from ocpp_board.ledger.program import find_program
 from ocpp_board.ledger.quotas import Asking, find_refused, write_reply
 from ocpp_board.ledger.refusals import (
@@ -31,7 +32,7 @@ from ocpp_board.ledger.refusals import (
     name_cause,
     read_levels,
 )
-from ocpp_board.ledger.rows import DELIVER, Done, Work, work_out
+from ocpp_board.ledger.rows import DELIVER, Done, Work, list_accepted, work_out
 from ocpp_board.limits import FIRST_MOMENT
 from ocpp_board.messages.texts import one_line
 from ocpp_board.messages.times import SECOND
@@ -77,6 +78,10 @@ class Batch:
     mended: list[tuple[Message, Wish]] = field(default_factory=list)
 
 
+# What will become of transactions: their works, and what is done of them.
+Foreseen = dict[Key, tuple[Work, Done]]
+
+
 class Piece(NamedTuple):
     """The transactions that a process works on."""
 
@@ -91,17 +96,20 @@ def settle(
     *,
     also: Callable[[Database], None] | None = None,
     warm: Warm | None = None,
+    guard: AbstractContextManager[Any] | None = None,
 ) -> list[Answer]:
     """Answers what is asked, in its order, once all that it changes is committed. Raises StoreError and ProgramError,
     and then nothing has changed. `pool`: processes among which texts and transactions are parted; `also`: is called
-    within the database transaction, right before its commit; `warm`: what this process stored last.
+    within the database transaction, right before its commit; `warm`: what this process stored last; `guard`: is held
+    together with a SQLite file, where several processes settle at once, and all that can be is computed before.
     """
     batch = Batch(asked, ask_program(asked, pool))
     sort_asked(batch)
     find_strangers(store, batch)
     if batch.sessions or batch.refusals or batch.others or batch.mended or also:
-        with store.transaction():
-            kept = write_batch(store, batch, pool, warm)
+        foreseen = foresee(store, batch) if guard and store.kind == "sqlite" else {}
+        with guard or nullcontext(), store.transaction():
+            kept = write_batch(store, batch, pool, warm, foreseen)
             if also:
                 also(store)
         if warm is not None:
@@ -208,7 +216,7 @@ def find_strangers(store: Database, batch: Batch) -> None:
 
 
 def write_batch(
-    store: Database, batch: Batch, pool: Pool | None, warm: Warm | None
+    store: Database, batch: Batch, pool: Pool | None, warm: Warm | None, foreseen: Foreseen
 ) -> dict[Key, Kept]:
     """Writes what a batch changes, within a database transaction, and answers the rest of it."""
     sites = hold_sites(store, batch)
@@ -219,29 +227,39 @@ def write_batch(
     )
     deeds = find_done(store, batch)
     batch.answers |= deeds
-    rules = find_all_rules(store, {one.site for one in held.values()})
-    works = {
-        key: Work(
-            *(
-                *key,
-                one.site,
-                rules[one.site],
-                one.lines,
-                list_new(batch, batch.sessions[key], deeds),
-            ),
-            [row.text for row in one.refusals if row.cause == CONFLICT],
-        )
-        for key, one in held.items()
-    }
+    works = make_works(store, batch, held, deeds)
     writer = Writer(store, warm is not None)
-    for key, work, done in work_on(works, pool):
-        take_answers(writer, batch, key, done, held[key], deeds)
+    for key, work, done in work_on(works, pool, foreseen):
+        take_answers(writer, batch, work, done, held[key], deeds)
     writer.write()
     write_refusals(store, batch)
     write_strays(store, batch)
     write_mended(store, batch)
     write_levels(store, batch, sites)
     return writer.kept
+
+
+def make_works(
+    store: Database, batch: Batch, held: dict[Key, Held], deeds: dict[int, Answer]
+) -> dict[Key, Work]:
+    """The works of transactions that are held."""
+    rules = find_all_rules(store, {one.site for one in held.values()})
+    works = dict[Key, Work]()
+    for key, one in held.items():
+        new = list_new(batch, batch.sessions[key], deeds)
+        works[key] = Work(*key, one.site, rules[one.site], one.lines, new, list_conflicts(key, one))
+    return works
+
+
+def foresee(store: Database, batch: Batch) -> Foreseen:
+    """What will become of a batch's transactions, if nobody changes them meanwhile."""
+    with store.snapshot():
+        sites = store_lines.find_sites(store, sorted({key[0] for key in batch.sessions}))
+        known = {key: sites[key[0]] for key in batch.sessions if key[0] in sites}
+        works = make_works(
+            store, batch, store_lines.hold_sessions(store, known), find_done(store, batch)
+        )
+    return {key: (work, done) for key, work, done in work_on(works, None)}
 
 
 def hold_sites(store: Database, batch: Batch) -> dict[str, str]:
@@ -313,6 +331,12 @@ def find_all_rules(store: Database, sites: Iterable[str]) -> dict[str, Rules]:
     return {row.site: read_rules(row) for row in rows}
 
 
+def list_conflicts(key: Key, held: Held) -> list[str]:
+    """The lines of messages that conflicted with a transaction's events."""
+    texts = (row.text for row in held.refusals if row.cause == CONFLICT)
+    return [f"{DELIVER}{key[0]} {one_line(text)}" for text in texts]
+
+
 def name_deed(one: Deed) -> dict[str, Any]:
     """The key of an operator's line."""
     return {
@@ -357,9 +381,14 @@ def make_line(one: Asked) -> Line:
     return Line(0, text, one.received, one.who, one.why, one.origin)
 
 
-def work_on(works: dict[Key, Work], pool: Pool | None) -> Iterator[tuple[Key, Work, Done]]:
+def work_on(
+    works: dict[Key, Work], pool: Pool | None, foreseen: Foreseen | None = None
+) -> Iterator[tuple[Key, Work, Done]]:
     """What became of each transaction's new lines, and its rows."""
     some = {key: work for key, work in works.items() if work.new or work.has_rows}
+    for key, (work, done) in (foreseen or {}).items():
+        if some.get(key) == work:
+            yield key, some.pop(key), done
     if pool is None:
         for (key, work), done in zip(some.items(), work_out(find_program(), some.values())):
             yield key, work, done
@@ -389,28 +418,23 @@ def work_piece(works: list[Work]) -> list[Done]:
 
 
 def take_answers(
-    writer: Writer, batch: Batch, key: Key, done: Done, held: Held, deeds: dict[int, Answer]
+    writer: Writer, batch: Batch, work: Work, done: Done, held: Held, deeds: dict[int, Answer]
 ) -> None:
     """Notes the answers to a transaction's lines, and has its lines and rows written."""
-    store = writer.store
-    answers, taken = iter(done.answers), set[int]()
-    for place in batch.sessions[key]:
+    key, store, taken = (work.station, work.transaction), writer.store, set[int]()
+    places = [place for place in batch.sessions[key] if place not in deeds]
+    for place, (outcome, name, reply, change) in zip(places, done.answers):
+        batch.answers[place] = Answer(outcome, name, reply, key[1], change)
         one = batch.asked[place]
-        if place in deeds:
-            continue
-        answer = next(answers)
-        batch.answers[place] = Answer(
-            answer.outcome, answer.name, answer.reply, key[1], answer.change
-        )
-        if isinstance(one, Deed):
-            write_deed(store, one, answer)
-        elif isinstance(one, Message):
-            if answer.outcome in ("accepted", "repeat"):
+        if isinstance(one, Message):
+            if outcome in ("accepted", "repeat"):
                 taken.add(batch.wishes[place].number)
-            elif answer.outcome in ("refused", "fault"):
-                refusal = describe_message(one.text, answer.name, one.received)
+            elif outcome in ("refused", "fault"):
+                refusal = describe_message(one.text, name, one.received)
                 batch.refusals.append((one, refusal, key[1]))
-    write_rows(writer, key, held, done)
+        elif isinstance(one, Deed):
+            write_deed(store, one, batch.answers[place])
+    write_rows(writer, work, held, done)
     untaken = [row for row in held.refusals if row.cause == UNTAKEN and row.number in taken]
     if untaken:
         store.execute_each(
@@ -419,8 +443,9 @@ def take_answers(
         )
 
 
-def write_rows(writer: Writer, key: Key, held: Held, done: Done) -> None:
+def write_rows(writer: Writer, work: Work, held: Held, done: Done) -> None:
     """Has the accepted lines of a transaction and its rows written."""
+    key = work.station, work.transaction
     if done.rows is None:
         if not held.lines:
             writer.drop_empty(key)
@@ -431,10 +456,10 @@ def write_rows(writer: Writer, key: Key, held: Held, done: Done) -> None:
         for one in done.rows.findings
     ]
     session = done.rows.session._asdict()
-    writer.add(key, held, done.accepted, session, parts, findings)
+    writer.add(key, held, list_accepted(work, done.answers), session, parts, findings)
 
 
-def write_deed(store: Database, one: Deed, answer: LineAnswer) -> None:
+def write_deed(store: Database, one: Deed, answer: Answer) -> None:
     """Adds an operator's line with its answer."""
     store.execute(
         store_lines.ADD_DEED,
@@ -443,7 +468,7 @@ def write_deed(store: Database, one: Deed, answer: LineAnswer) -> None:
         why=one.why,
         outcome=answer.outcome,
         name=answer.name,
-        count=answer.change,
+        count=answer.count,
     )
 
 
@@ -569,14 +594,14 @@ def compute_again(store: Database, site: str, rules: Rules) -> int:
         works = {
             key: Work(
                 *(*key, site, rules, one.lines, no_lines),
-                [row.text for row in one.refusals if row.cause == CONFLICT],
+                list_conflicts(key, one),
                 True,
             )
             for key, one in held.items()
         }
         writer = Writer(store)
-        for key, _, done in work_on(works, None):
-            write_rows(writer, key, held[key], done)
+        for key, work, done in work_on(works, None):
+            write_rows(writer, work, held[key], done)
         writer.write()
         count, after = count + len(keys), keys[-1]
 

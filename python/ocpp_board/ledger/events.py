@@ -4,8 +4,9 @@ from collections.abc import Iterable, Sequence
 from dataclasses import dataclass, field
 from datetime import datetime
 from functools import lru_cache
+from typing import NamedTuple
 
-from ocpp_board.ledger.answers import Lists, Placed
+from ocpp_board.ledger.answers import Listed, Lists, Placed
 from ocpp_board.messages.meter_values import JSON
 from ocpp_board.messages.transactions import Event, Reading, event_of
 from ocpp_board.records import Line
@@ -19,10 +20,10 @@ KEPT_EVENTS = 50_000
 
 @dataclass
 class History:
-    """The accepted events of a transaction by their numbers, voided ones included, those that conflicted with them,
-    and what operators voided: by the numbers of events, who and why."""
+    """What the accepted events of a transaction say by their numbers, voided ones included, the events that conflicted
+    with them, and what operators voided: by the numbers of events, who and why."""
 
-    events: dict[int, Event] = field(default_factory=dict)
+    told: "dict[int, Told]" = field(default_factory=dict)
     conflicts: list[Event] = field(default_factory=list)
     voids: dict[int, tuple[str, str]] = field(default_factory=dict)
     # Its id as it was sent first: two that differ only in letters' sizes are one.
@@ -47,34 +48,45 @@ class LiveEvents(list[Event]):
         return self.orders[is_export]
 
 
+class Told(NamedTuple):
+    """What a message says: its event, the readings of both registers, and the transaction's id as it was sent."""
+
+    event: Event
+    sides: Sides
+    sent: str
+
+
 @lru_cache(KEPT_EVENTS)
-def read_event(text: str, received: datetime | None, line: int) -> tuple[Event, str]:
-    """The event of a message that the program took, and the transaction's id as it was sent."""
-    payload = JSON.decode(text)[3]
-    return event_of(payload, received, line), payload["transactionInfo"]["transactionId"]
+def read_event(text: str, received: datetime | None, line: int) -> Told:
+    """What a line `deliver` says whose message the program took."""
+    payload = JSON.decode(text.split(" ", 2)[2])[3]
+    event = event_of(payload, received, line)
+    return Told(event, part_readings(event), payload["transactionInfo"]["transactionId"])
 
 
 def read_history(lines: Sequence[Line], conflicts: Sequence[str]) -> History:
-    """What the accepted lines of a transaction have. `conflicts`: texts that conflicted with them."""
+    """What the accepted lines of a transaction have. `conflicts`: lines that conflicted with them."""
     history = History()
+    events, until = history.told, None
     for line in lines:
-        word, _, rest = line.text.partition(" ")
-        if line.received and (
-            history.received_until is None or line.received > history.received_until
-        ):
-            history.received_until = line.received
-        if word == "deliver":
-            event, sent = read_event(rest.partition(" ")[2], line.received, line.number)
-            history.sent = history.sent or sent
-            history.events[event.number] = event
+        if line.received and (until is None or line.received > until):
+            until = line.received
+        if line.text.startswith("deliver "):
+            told = read_event(line.text, line.received, line.number)
+            events[told.event.number] = told
             continue
+        word, _, rest = line.text.partition(" ")
         number = int(rest.rpartition(" ")[2])
         history.voids.pop(number, None)
         if word == "void":
             history.voids[number] = line.who, line.why
         elif word == "erase":
-            history.events.pop(number, None)
-    history.conflicts = [read_event(text, None, 0)[0] for text in conflicts]
+            events.pop(number, None)
+    history.received_until = until
+    first = next((line for line in lines if line.text.startswith("deliver ")), None)
+    if first is not None:
+        history.sent = read_event(first.text, first.received, first.number).sent
+    history.conflicts = [read_event(text, None, 0).event for text in conflicts]
     return history
 
 
@@ -82,31 +94,42 @@ def join_lists(lists: Lists, history: History) -> LiveEvents:
     """The live events by the program's lists, each with what its message has beside what the lists say."""
     own = group_readings(lists.readings[0]), group_readings(lists.readings[1])
     events = dict[int, Event]()
-    sides = dict[int, Sides]()
     for listed in lists.events:
-        read = own[0].get(listed.number, ()), own[1].get(listed.number, ())
-        event = history.events.get(listed.number)
-        if (
-            event is None
-            or event[:3] != listed[:3]
-            or event.evse != listed.evse
-            or part_readings(event) != read
-        ):
-            event = (event or NO_EVENT)._replace(**listed._asdict(), readings=read[0] + read[1])
-        events[listed.number], sides[listed.number] = event, read
+        number = listed.number
+        sides = own[0].get(number, ()), own[1].get(number, ())
+        told = history.told.get(number)
+        if told is not None and told.sides == sides and is_listed(told.event, listed):
+            events[number] = told.event
+        else:
+            event = told.event if told else NO_EVENT
+            events[number] = event._replace(**listed._asdict(), readings=sides[0] + sides[1])
     orders = [
-        [(events[one.number], sides[one.number][side][one.place]) for one in readings]
-        for side, readings in enumerate(lists.readings)
+        [(events[one.number], one.reading) for one in readings] for readings in lists.readings
     ]
     return LiveEvents(events.values(), orders[0], orders[1])
 
 
-def group_readings(readings: Iterable[Placed]) -> dict[int, tuple[Reading, ...]]:
+def is_listed(event: Event, listed: Listed) -> bool:
+    """Whether an event is what the program lists."""
+    return (event.at, event.kind, event.evse) == (listed.at, listed.kind, listed.evse)
+
+
+def group_readings(readings: Sequence[Placed]) -> dict[int, tuple[Reading, ...]]:
     """The readings of each event by its number, by their places."""
-    found = dict[int, list[Placed]]()
+    found = dict[int, tuple[Reading, ...]]()
+    several = dict[int, list[Placed]]()
     for one in readings:
-        found.setdefault(one.number, []).append(one)
-    return {number: tuple(one.reading for one in sorted(some)) for number, some in found.items()}
+        number = one.number
+        if number in several:
+            several[number].append(one)
+        elif one.place or number in found:
+            several[number] = [Placed(number, 0, had) for had in found.pop(number, ())]
+            several[number].append(one)
+        else:
+            found[number] = (one.reading,)
+    for number, some in several.items():
+        found[number] = tuple(one.reading for one in sorted(some))
+    return found
 
 
 def part_readings(event: Event) -> Sides:

@@ -353,5 +353,5 @@ def find_clocks(events: Sequence[Event]) -> Iterator[Finding]:
 
 def find_numbers(history: History, events: Sequence[Event]) -> Iterator[Finding]:
     """Whether the first number that came is above 0, be it voided or not."""
-    if first := min(history.events):
+    if first := min(history.told):
         yield from make_finding(Kind.NUMBERS_ABOVE_0, events[:1], f"the first is {first}")

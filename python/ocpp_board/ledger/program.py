@@ -31,8 +31,8 @@ SILENT, REPLY, EVENT, MISTAKEN, NO_MEMORY_ASKED = range(5)
 LONGEST_TEXT = LONGEST_LINE - 64
 # Bytes that what a text asks for may have: a reply has at most 512.
 LONGEST_WISH = 1_024
-# The first moment that a text's reply may name, in nanoseconds since 1970, and a second.
-FIRST, SECOND = 946_684_800_000_000_000, 1_000_000_000
+# The first moment that a text's reply may name, and the first one after all, in nanoseconds since 1970.
+FIRST, PAST, SECOND = 946_684_800_000_000_000, 4_102_444_800_000_000_000, 1_000_000_000
 
 
 class Program(Protocol):
@@ -53,6 +53,11 @@ def encode_text(text: str) -> bytes | Wish:
     except UnicodeEncodeError:
         return Wish("fault", "BadLine")
     return data if len(data) <= LONGEST_TEXT else Wish("fault", "LineTooLong")
+
+
+def limit_moment(moment: int | None) -> int:
+    """A moment that a reply may name: another one is the first."""
+    return moment if moment is not None and FIRST <= moment < PAST else FIRST
 
 
 class LibraryProgram:
@@ -117,7 +122,7 @@ class LibraryProgram:
                 found.append(data)
                 continue
             status = self.call_asks(
-                *(data, len(data), FIRST if moment is None else moment),
+                *(data, len(data), limit_moment(moment)),
                 *(text, LONGEST_WISH, ctypes.byref(used), ctypes.byref(number)),
             )
             if status == EVENT:
@@ -163,7 +168,7 @@ class ProcessProgram:
             found.append(data if isinstance(data, Wish) else None)
             if isinstance(data, Wish):
                 continue
-            moment = FIRST if moment is None else moment
+            moment = limit_moment(moment)
             if moment != before:
                 lines.append(write_now(moment))
                 before = moment
@@ -184,7 +189,7 @@ def list_libraries(program: str | None) -> Iterable[str]:
     if named := os.environ.get(LIBRARY_NAME):
         yield named
         return
-    if program:
+    if program := program or os.environ.get(PROGRAM_NAME):
         yield str(Path(program).resolve().parent / LIBRARY)
         return
     yield str(PACKAGES.parent / "crates/ocpp_ledger/out" / LIBRARY)

@@ -51,7 +51,9 @@ def find_refused(
     refused = dict[int, str]()
     stations = {one.message.station for one in asking if sites[one.message.station] in quotas}
     for station in sorted(stations):
-        quota, own = quotas[sites[station]], [one for one in asking if one.message.station == station]
+        quota, own = quotas[sites[station]], [
+            one for one in asking if one.message.station == station
+        ]
         if quota.open:
             refused |= refuse_open(store, station, quota.open, own)
         if quota.bytes:

@@ -6,16 +6,24 @@ A transaction's figures depend on its own lines only, so any number of processes
 import json
 from collections.abc import Iterable, Iterator, Sequence
 from datetime import datetime, timezone
+from functools import lru_cache
 from typing import NamedTuple
 
 from ocpp_board.energies import Flow
 from ocpp_board.errors import ProgramError, StoreError
-from ocpp_board.ledger.answers import AnswerReader, BoardPart, Figures, LineAnswer, Lists
+from ocpp_board.ledger.answers import (
+    AnswerReader,
+    BoardPart,
+    Figures,
+    LineAnswer,
+    Lists,
+    read_line_answer,
+)
 from ocpp_board.ledger.events import History, LiveEvents, join_lists, read_history
 from ocpp_board.ledger.findings import Finding, find_doubts, name_order_option
 from ocpp_board.ledger.periods import find_holes, find_period_doubts
 from ocpp_board.ledger.program import Program
-from ocpp_board.limits import LONGEST_SCRIPT, MOST_READINGS, MOST_STATIONS
+from ocpp_board.limits import LONGEST_SCRIPT, MOST_READINGS, MOST_SITES, MOST_STATIONS
 from ocpp_board.messages.bills import NOTHING, with_key
 from ocpp_board.records import Line, Rules
 
@@ -25,6 +33,8 @@ SOMEBODY = "an operator"
 MOST_BYTES = 8 * 1_048_576
 # Readings of one message that count, at most, and the least bytes of one.
 MOST_OF_A_MESSAGE, LEAST_READING = 1_024, 11
+# Texts that have their counts of readings kept.
+KEPT_COUNTS = 50_000
 DELIVER, CONFLICT = "deliver ", "ConflictingEvent"
 
 
@@ -90,7 +100,7 @@ class Rows(NamedTuple):
 
 
 class Work(NamedTuple):
-    """A transaction with its stored lines and new ones. `conflicts`: texts that conflicted with its events; `has_rows`:
+    """A transaction with its stored lines and new ones. `conflicts`: lines that conflicted with its events; `has_rows`:
     rows are wanted though nothing changes."""
 
     station: str
@@ -104,10 +114,9 @@ class Work(NamedTuple):
 
 
 class Done(NamedTuple):
-    """The answers to the new lines of a work, its lines after them, and its rows; None where nothing changed."""
+    """The answers to the new lines of a work, and its rows after them; None where nothing changed."""
 
     answers: list[LineAnswer]
-    accepted: list[Line]
     rows: Rows | None
 
 
@@ -132,13 +141,22 @@ def work_out(program: Program, works: Iterable[Work]) -> Iterator[Done]:
     enough."""
     for some in part_works(works):
         reader = AnswerReader(program.answer(write_script(some)))
-        answers = [[reader.read_answer() for _ in (*work.stored, *work.new)] for work in some]
-        boards = dict[int, BoardPart]()
-        for _, ones in group_by_rules(some):
-            board = reader.read_board()
-            boards |= {number: board.stations[f"t{number}"] for number in ones}
-        for number, work in enumerate(some):
-            yield finish_work(work, answers[number], boards[number], reader)
+        answers = [read_answers(one.work, reader) for one in some]
+        boards = dict[str, BoardPart]()
+        for _ in group_by_rules(some):
+            boards |= reader.read_board(has_own=False).stations
+        for one, name, own in zip(some, name_stations(some), answers):
+            yield finish_work(one.work, own, boards[name], reader)
+
+
+def read_answers(work: Work, reader: AnswerReader) -> list[LineAnswer]:
+    """The answers to a transaction's new lines; its stored ones have to be accepted. Raises StoreError."""
+    for line, answer in zip(work.stored, reader.read_some(len(work.stored))):
+        wanted = f"accepted {line.number}"
+        if not answer.startswith(wanted) or answer[len(wanted) : len(wanted) + 1].strip():
+            where = f"line {line.number} of transaction {work.transaction} of {work.station}"
+            raise StoreError(f"{where} is answered {answer[:80]!r}: the store is damaged")
+    return [read_line_answer(answer) for answer in reader.read_some(len(work.new))]
 
 
 def finish_work(
@@ -146,32 +164,29 @@ def finish_work(
 ) -> Done:
     """What became of a transaction's new lines, and its rows. The reader is before its two lists."""
     lists = Lists(reader.read_events(), reader.read_readings())
-    for line, answer in zip(work.stored, answers):
-        if answer.outcome != "accepted" or answer.change != line.number:
-            where = f"line {line.number} of transaction {work.transaction} of {work.station}"
-            raise StoreError(
-                f"{where} is answered {answer.outcome} {answer.name}: the store is damaged"
-            )
-    own = answers[len(work.stored) :]
-    accepted = [
-        Line(answer.change, line.text, line.received, line.who, line.why, line.origin)
-        for line, answer in zip(work.new, own)
+    accepted, conflicts = list_accepted(work, answers), dict.fromkeys(work.conflicts)
+    for line, answer in zip(work.new, answers):
+        if answer.name == CONFLICT and line.text.startswith(DELIVER):
+            conflicts[line.text] = None
+    if not accepted and len(conflicts) == len(work.conflicts) and not work.has_rows:
+        return Done(answers, None)
+    work = work._replace(conflicts=list(conflicts))
+    return Done(answers, make_rows(work, [*work.stored, *accepted], board, lists))
+
+
+def list_accepted(work: Work, answers: Sequence[LineAnswer]) -> list[Line]:
+    """The new lines of a work that were accepted, each with its place among those of its transaction."""
+    return [
+        Line(answer.change, *line[1:])
+        for line, answer in zip(work.new, answers)
         if answer.outcome == "accepted"
     ]
-    conflicts = [
-        take_message(line.text)
-        for line, answer in zip(work.new, own)
-        if answer.name == CONFLICT and line.text.startswith(DELIVER)
-    ]
-    if not accepted and not conflicts and not work.has_rows:
-        return Done(own, accepted, None)
-    work = work._replace(conflicts=list(dict.fromkeys([*work.conflicts, *conflicts])))
-    return Done(own, accepted, make_rows(work, [*work.stored, *accepted], board, lists))
 
 
 # Scripts --------------------------------------------------------------------------------------------------------------
 
 
+@lru_cache(KEPT_COUNTS)
 def count_readings(text: str) -> int:
     """How many readings a text has, at most."""
     if "\\" in text:
@@ -179,76 +194,103 @@ def count_readings(text: str) -> int:
     return min(MOST_OF_A_MESSAGE, text.count('"value"'))
 
 
-def fit_limits(work: Work) -> tuple[int, int]:
-    """How many events and readings a script has to keep for a transaction: its rules' limits, or what its lines can
-    have, if that is less."""
-    texts = [line.text for line in (*work.stored, *work.new) if line.text.startswith(DELIVER)]
-    events = min(work.rules.limits.events, len(texts))
-    return max(events, 1), max(min(work.rules.limits.readings, sum(map(count_readings, texts))), 1)
+class Measured(NamedTuple):
+    """A work with what a script has to keep for it: its rules' limits, or what its lines can have, if that is less."""
+
+    work: Work
+    events: int
+    readings: int
+    size: int
 
 
-def part_works(works: Iterable[Work]) -> Iterator[list[Work]]:
+def measure(work: Work) -> Measured:
+    """A work with what a script has to keep for it."""
+    events = readings = size = 0
+    for some in (work.stored, work.new):
+        for line in some:
+            text = line.text
+            size += len(text)
+            if text.startswith(DELIVER):
+                events += 1
+                readings += count_readings(text)
+    limits = work.rules.limits
+    return Measured(
+        work, max(min(limits.events, events), 1), max(min(limits.readings, readings), 1), size
+    )
+
+
+def part_works(works: Iterable[Work]) -> Iterator[list[Measured]]:
     """Works in lists that a script has room for."""
-    some, readings, size = list[Work](), 0, 0
-    for work in works:
-        _, more = fit_limits(work)
-        length = sum(len(line.text) for line in (*work.stored, *work.new))
+    some, readings, size, kinds = list[Measured](), 0, 0, set[Kind]()
+    for one in map(measure, works):
+        kinds.add(name_kind(one))
         if some and (
             len(some) == MOST_STATIONS
-            or readings + more > MOST_READINGS
-            or size + length > MOST_BYTES
-            or len(group_by_rules([*some, work])) > 16
+            or readings + one.readings > MOST_READINGS
+            or size + one.size > MOST_BYTES
+            or len(kinds) > MOST_SITES
         ):
             yield some
-            some, readings, size = [], 0, 0
-        some.append(work)
-        readings, size = readings + more, size + length
+            some, readings, size, kinds = [], 0, 0, {name_kind(one)}
+        some.append(one)
+        readings, size = readings + one.readings, size + one.size
     if some:
         yield some
 
 
-def group_by_rules(works: Sequence[Work]) -> list[tuple[tuple[int, str, str], list[int]]]:
+# What a site decides of a board.
+Kind = tuple[int, str, str]
+
+
+def name_kind(one: Measured) -> Kind:
+    """What the work's site decides of a board."""
+    rules = one.work.rules
+    return rules.period, rules.order, rules.settle
+
+
+def group_by_rules(works: Sequence[Measured]) -> list[tuple[Kind, list[int]]]:
     """The numbers of works by what their sites decide of a board."""
-    found = dict[tuple[int, str, str], list[int]]()
-    for number, work in enumerate(works):
-        rules = work.rules
-        found.setdefault((rules.period, rules.order, rules.settle), []).append(number)
+    found = dict[Kind, list[int]]()
+    for number, one in enumerate(works):
+        found.setdefault(name_kind(one), []).append(number)
     return list(found.items())
 
 
-def write_script(works: Sequence[Work]) -> bytes:
+def name_stations(works: Sequence[Measured]) -> list[str]:
+    """The stations of a script: each work has one of its own."""
+    names = [one.work.station for one in works]
+    return names if len(set(names)) == len(names) else [f"t{n}" for n in range(len(names))]
+
+
+def write_script(works: Sequence[Measured]) -> bytes:
     """A script in which each transaction has a station of its own: its lines, then the boards, then the lists."""
-    sites, lines = group_by_rules(works), list[str]()
-    for site, (rules, ones) in enumerate(sites):
+    sites, names, lines = group_by_rules(works), name_stations(works), list[str]()
+    for site, ((period, order, settle), ones) in enumerate(sites):
         for number in ones:
-            events, readings = fit_limits(works[number])
-            lines.append(f"limits 1 {events} {readings} 9223372036854775808")
-            lines.append(f"station s{site} t{number}")
-        period, order, settle = rules
+            lines.append(f"limits 1 {works[number].events} {works[number].readings} {2**63}")
+            lines.append(f"station s{site} {names[number]}")
         lines += [f"period s{site} {period}", f"order s{site} {order}", f"settle s{site} {settle}"]
-    for number, work in enumerate(works):
-        lines += (name_station(line.text, f"t{number}") for line in (*work.stored, *work.new))
+    for name, one in zip(names, works):
+        own = (line.text for line in (*one.work.stored, *one.work.new))
+        lines += own if name == one.work.station else (name_station(text, name) for text in own)
     lines += (f"board s{site}" for site in range(len(sites)))
-    for number, work in enumerate(works):
-        lines.append(f"events t{number} {work.transaction}")
-        lines.append(f"readings t{number} {work.transaction}")
-    script = "\n".join(lines).encode() + b"\n"
-    if len(script) > LONGEST_SCRIPT:
+    for name, one in zip(names, works):
+        lines.append(f"events {name} {one.work.transaction}")
+        lines.append(f"readings {name} {one.work.transaction}")
+    script = "\n".join([*lines, ""])
+    if "\r\n" in script:
+        # The program drops one carriage return before a line feed: a message's own stays.
+        script = script.replace("\r\n", "\r\r\n")
+    data = script.encode()
+    if len(data) > LONGEST_SCRIPT:
         raise ProgramError(f"a transaction has more than {LONGEST_SCRIPT:,} bytes of lines")
-    return script
-
-
-def take_message(text: str) -> str:
-    """The message of a line `deliver`."""
-    return text.split(" ", 2)[2]
+    return data
 
 
 def name_station(text: str, station: str) -> str:
     """A line with another station."""
-    word, _, rest = text.partition(" ")
-    text = f"{word} {station} {rest.partition(' ')[2]}"
-    # The program drops one carriage return before a line feed: the message's own stays.
-    return text + "\r" if text.endswith("\r") else text
+    word, _, rest = text.split(" ", 2)
+    return f"{word} {station} {rest}"
 
 
 # Rows -----------------------------------------------------------------------------------------------------------------
@@ -333,7 +375,13 @@ def find_registers(events: LiveEvents) -> dict[str, int | None]:
 
 def to_moment(seconds: float | None) -> datetime | None:
     """A moment that is given in seconds since 1970, in UTC."""
-    return None if seconds is None else datetime.fromtimestamp(seconds, timezone.utc)
+    return None if seconds is None else read_moment(seconds)
+
+
+@lru_cache(KEPT_COUNTS)
+def read_moment(seconds: float) -> datetime:
+    """A moment in seconds since 1970, in UTC."""
+    return datetime.fromtimestamp(seconds, timezone.utc)
 
 
 def leave_voided(gaps: Sequence[tuple[int, int]], history: History) -> list[tuple[int, int]]:
@@ -373,7 +421,7 @@ def name_state(figures: Figures, history: History, events: LiveEvents) -> str:
     ends = [
         one
         for number, one in voids.items()
-        if number in history.events and history.events[number].kind == lacks
+        if number in history.told and history.told[number].event.kind == lacks
     ]
     return f"{name_voiders(ends)}: {state.removesuffix(' yet')}" if ends else state
 
@@ -389,7 +437,7 @@ def make_parts(
         is_estimated = doubt is not None and doubt.is_estimated
         found.append(
             Part(
-                datetime.fromtimestamp(start, timezone.utc),
+                read_moment(start),
                 *(flow or Flow()),
                 flow is not None,
                 not is_estimated,

@@ -4,6 +4,7 @@ A site's lines are replayed in scripts of up to 64 stations; boards of scripts t
 """
 
 from collections.abc import Iterable, Iterator, Sequence
+from datetime import datetime, timezone
 from typing import Any, NamedTuple
 
 from ocpp_board.energies import Flow
@@ -12,6 +13,7 @@ from ocpp_board.ledger.answers import AnswerReader, Board, BoardPart, Figures, T
 from ocpp_board.ledger.engine import Pool
 from ocpp_board.ledger.program import find_program
 from ocpp_board.ledger.scripts import Script, part_scripts, write_line
+from ocpp_board.limits import FIRST_MOMENT
 from ocpp_board.records import Rules
 from ocpp_board.store.database import Database
 from ocpp_board.store.plan import RULES_COLUMNS, read_rules
@@ -19,8 +21,8 @@ from ocpp_board.store.plan import RULES_COLUMNS, read_rules
 # Scripts that are made before they are answered.
 AT_ONCE = 8
 LINES = """
-select l.station, l.transaction_id, l.number, l.line, l.received, l.who, l.why, l.origin from line l
-join session s on s.station = l.station and s.transaction_id = l.transaction_id
+select l.station, l.transaction_id, l.line from session s
+join line l on l.station = s.station and l.transaction_id = s.transaction_id
 where s.site = :site order by l.station, l.transaction_id, l.number
 """
 COUNTS = ("events", "voided", "transactions", "complete_transactions", "missing")
@@ -43,18 +45,43 @@ def verify(
 ) -> Verified:
     """Compares the views of a store with the boards of whole scripts. `sites`: None for all. Raises StoreError and
     ProgramError."""
-    figures = 0
     with store.snapshot():
+        return verify_within(store, sites, pool)
+
+
+def verify_within(
+    store: Database, sites: Sequence[str] | None = None, pool: Pool | None = None
+) -> Verified:
+    """The same within a database transaction of the caller's."""
+    figures = 0
+    try:
+        if sites is None:
+            find_orphans(store)
         rows = store.fetch(f"select site, {RULES_COLUMNS} from site order by place, site")
         for row in rows:
-            if sites is not None and row.site not in sites:
-                continue
-            try:
+            if sites is None or row.site in sites:
                 board = replay_site(store, row.site, read_rules(row), pool)
                 figures += compare_site(store, row.site, board)
-            except Difference as fault:
-                return Verified(figures, str(fault))
+    except Difference as fault:
+        return Verified(figures, str(fault))
     return Verified(figures)
+
+
+def find_orphans(store: Database) -> None:
+    """Looks for lines without a transaction's row, and for rows without a site. Raises Difference."""
+    row = store.fetch_one(
+        """select l.station, l.transaction_id from line l left join session s
+        on s.station = l.station and s.transaction_id = l.transaction_id where s.station is null limit 1"""
+    )
+    if row is not None:
+        raise Difference(f"transaction {row.transaction_id} of {row.station} has lines and no row")
+    row = store.fetch_one(
+        """select s.station, s.transaction_id, s.site from session s left join site i on i.site = s.site
+        where i.site is null limit 1"""
+    )
+    if row is not None:
+        at = f"transaction {row.transaction_id} of {row.station}"
+        raise Difference(f"{at} is of the site {row.site}, and there is no site {row.site}")
 
 
 # Replaying -----------------------------------------------------------------------------------------------------------
@@ -199,11 +226,18 @@ def write_gaps(gaps: Iterable[tuple[int, int]]) -> str:
     return " ".join(f"{first}..{last}" for first, last in gaps)
 
 
+def name_key(key: Any) -> str:
+    """A part of a key for a reader: a name, the number of an EVSE, or the beginning of a period."""
+    if isinstance(key, int) and key >= FIRST_MOMENT.timestamp():
+        return f"{datetime.fromtimestamp(key, timezone.utc):%Y-%m-%dT%H:%M:%SZ}"
+    return str(key)
+
+
 def compare(where: str, names: Sequence[str], shown: Values, wanted: Values) -> int:
     """Compares figures by their keys, and returns how many there are. Raises Difference."""
     if shown != wanted:
         for key in sorted({*shown, *wanted}):
-            name = " ".join(map(str, key)) if isinstance(key, tuple) else str(key)
+            name = " ".join(map(name_key, key if isinstance(key, tuple) else (key,)))
             at = f"{where} {name}".strip()
             if key not in shown:
                 raise Difference(f"{at} is on the program's board and not in the store")

@@ -41,7 +41,7 @@ PATIENCE = 60
 MARK = re.compile(r"/\*(sqlite|postgresql) (.*?)\*/", re.DOTALL)
 # A text in quotes, in which nothing is a comment, or a comment.
 COMMENT = re.compile(r"('(?:[^'])*')|--[^\n]*")
-PARAMETER = re.compile(r"(?<![:\w]):([a-z_]+)")
+PARAMETER = re.compile(r"('[^']*')|(?<![:\w]):([a-z_][a-z0-9_]*)")
 PARTITIONED = re.compile(r"create table (\w+) \([^;]*partition by hash", re.DOTALL)
 # Columns whose values are moments, days or yes and no, by their names.
 MOMENTS = {"at", "starts", "since", "until", "received", "began", "ended"}
@@ -59,6 +59,7 @@ def is_moment(column: str) -> bool:
     return column in MOMENTS or column.endswith(("_at", "_until"))
 
 
+@lru_cache(65_536)
 def write_moment(at: datetime) -> str:
     """A moment as SQLite keeps it."""
     return at.astimezone(timezone.utc).isoformat(" ", "microseconds")
@@ -78,7 +79,7 @@ def choose(text: str, kind: str) -> str:
 @lru_cache(1_024)
 def write_postgresql(statement: str) -> str:
     """A statement with its parameters as psycopg has them."""
-    return PARAMETER.sub(r"%(\1)s", statement.replace("%", "%%"))
+    return PARAMETER.sub(lambda found: found[1] or f"%({found[2]})s", statement.replace("%", "%%"))
 
 
 class Database:
@@ -122,6 +123,14 @@ class Database:
         """The first row of a statement; None where it has none."""
         rows = self.fetch(statement, **values)
         return rows[0] if rows else None
+
+    def has_table(self, table: str) -> bool:
+        """Whether there is a table of this name."""
+        if self.kind == "sqlite":
+            asked = "select 1 as one from sqlite_master where name = :name"
+        else:
+            asked = "select 1 as one from pg_class where oid = to_regclass(cast(:name as text))"
+        return self.fetch_one(asked, name=table) is not None
 
     def insert_each(self, table: str, rows: Sequence[Values]) -> None:
         """Inserts rows, which all have the same columns."""
@@ -189,9 +198,10 @@ class SqliteDatabase(Database):
         self.connection.executemany(statement, values)
 
     @report_faults
-    def execute_script(self, text: str) -> None:
-        """Runs statements."""
-        self.connection.executescript(text)
+    @report_faults
+    def insert_rows(self, statement: str, rows: Iterable[tuple[Any, ...]]) -> None:
+        """Runs a statement for each of these rows, by the places of its marks `?`."""
+        self.connection.executemany(statement, rows)
 
     @report_faults
     def fetch(self, statement: str, **values: Any) -> list[Row]:
@@ -304,11 +314,6 @@ class PostgresDatabase(Database):
             cursor.executemany(write_postgresql(statement), values)
 
     @report_faults
-    def execute_script(self, text: str) -> None:
-        """Runs statements."""
-        self.connection.execute(text)
-
-    @report_faults
     def fetch(self, statement: str, **values: Any) -> list[Row]:
         """The rows of a statement."""
         return list(self.connection.execute(write_postgresql(statement), values).fetchall())
@@ -394,11 +399,7 @@ def make_tables(database: SqliteDatabase | PostgresDatabase) -> None:
 
 def has_table(database: Database) -> bool:
     """Whether the store has tables."""
-    if database.kind == "sqlite":
-        asked = "select 1 as one from sqlite_master where name = 'store'"
-    else:
-        asked = "select 1 as one from pg_class where oid = to_regclass('store')"
-    return database.fetch_one(asked) is not None
+    return database.has_table("store")
 
 
 def list_sources() -> list[Path]:

@@ -9,12 +9,14 @@ from typing import Any, NamedTuple
 
 from ocpp_board.errors import StoreError
 from ocpp_board.records import Line
-from ocpp_board.store.database import Database, Row, choose
+from ocpp_board.store.database import Database, Row, SqliteDatabase
 
 SESSION = """lines evse events voided first_number last_number complete missing gaps up down export_up export_down state
 began ended first_at last_at first_register last_register first_export_register last_export_register stopped_reason
 sent_id token token_type remote_start_id signed holes reading_moments boundary_moments first_boundary_at
 received_until""".split()
+# The columns of a line, in the order of `records.Line`.
+LINE = "station transaction_id number line received who why origin".split()
 PART = "starts up down export_up export_down on_board measured shared numbers_missing".split()
 FINDING = "kind times first_at detail".split()
 OF_SESSION = "station = :station and transaction_id = :transaction"
@@ -203,7 +205,7 @@ def read_refusals(store: Database, keys: Sequence[Key]) -> Iterable[list[Row]]:
     return fetch_keyed(store, columns, "refusal", keys, more)
 
 
-# What a process stored last --------------------------------------------------------------------------------------------
+# What a process stored last ---------------------------------------------------------------------------------------
 
 
 @dataclass(slots=True)
@@ -252,7 +254,7 @@ class Warm:
             self.drop(next(iter(self.kept)))
 
 
-# Writing ----------------------------------------------------------------------------------------------------------------
+# Writing -----------------------------------------------------------------------------------------------------------
 
 
 class Writer:
@@ -262,7 +264,7 @@ class Writer:
         """`keeps`: what is written is kept, too."""
         self.store, self.keeps = store, keeps
         self.at = datetime.now(timezone.utc)
-        self.lines: list[dict[str, Any]] = []
+        self.lines: list[tuple[Any, ...]] = []
         self.sessions: list[dict[str, Any]] = []
         self.rows: dict[Key, tuple[Held, list[dict[str, Any]], list[dict[str, Any]]]] = {}
         self.empty: list[Key] = []
@@ -280,12 +282,7 @@ class Writer:
     ) -> None:
         """Collects the accepted lines of a transaction, and its rows."""
         front = {"station": key[0], "transaction_id": key[1]}
-        for line in accepted:
-            self.lines.append(
-                front
-                | {"number": line.number, "received": line.received, "line": line.text}
-                | {"who": line.who, "origin": line.origin, "why": line.why}
-            )
+        self.lines += [(*key, *line) for line in accepted]
         session = {name: clean_text(value) for name, value in session.items()}
         self.sessions.append(front | {"site": held.site, "changed_at": self.at} | session)
         self.rows[key] = held, parts, findings
@@ -329,17 +326,17 @@ class Writer:
         self.lines, self.sessions, self.rows, self.empty = [], [], {}, []
 
 
-def insert_lines(store: Database, rows: Sequence[dict[str, Any]]) -> None:
-    """Adds lines; one that is there fails."""
-    if store.kind == "sqlite":
-        store.insert_each("line", rows)
+def insert_lines(store: Database, rows: Sequence[tuple[Any, ...]]) -> None:
+    """Adds lines, each with the values of LINE; one that is there fails."""
+    names = ", ".join(LINE)
+    if isinstance(store, SqliteDatabase):
+        store.insert_rows(f"insert into line ({names}) values ({', '.join('?' * len(LINE))})", rows)
         return
     # PostgreSQL has a type `line` of its own, so the table's can't be named here.
-    names = ", ".join(rows[0])
     store.execute(
         f"""insert into line ({names}) select {names} from json_to_recordset(:rows) as r (station text,
         transaction_id text, number int, received timestamptz, line text, who text, origin text, why text)""",
-        rows=json.dumps(rows, default=datetime.isoformat),
+        rows=json.dumps([dict(zip(LINE, row)) for row in rows], default=datetime.isoformat),
     )
 
 

@@ -57,6 +57,9 @@ begin
             execute format('grant insert on %I to ocpp_operator', one);
         end if;
     end loop;
+    if to_regclass('closing') is not null then
+        grant select on closing to ocpp_gateway; -- for the age of the last one, at /metrics
+    end if;
     if to_regclass('metering_point') is not null then
         grant update, delete on metering_point to ocpp_operator;
     end if;

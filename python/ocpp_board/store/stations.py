@@ -175,3 +175,13 @@ def write_quota(
         )
         note_change(store, author, "site", site, before, after)
     return quota
+
+
+def read_figures(store: Database) -> tuple[int, dict[str, float]]:
+    """For who watches: how many messages are of stations that no site has, and seconds since each site's last closing,
+    of those that were closed once."""
+    (row,) = store.fetch("select count(*) as n from stray")
+    if not store.has_table("closing"):
+        return row.n, {}
+    rows = store.fetch("select site, max(at) as closed_at from closing group by site")
+    return row.n, {one.site: (now() - one.closed_at).total_seconds() for one in rows}
