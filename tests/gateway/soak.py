@@ -132,6 +132,8 @@ class Scene:
         part = Seen(waits=untouched)
         print(f"faults and strangers: {dict(self.counts)}")
         print(f"all messages: {seen.report()}")
+        for line in seen.odd[:5]:
+            print(line)
         print(
             f"{len(untouched)} untouched: median / 99th / longest {part.wait(0.5):.0f} / {part.wait(0.99):.0f} / "
             f"{part.wait(1):.0f} ms"

@@ -98,6 +98,8 @@ def name_keys(keys: Iterable[Key]) -> list[dict[str, str]]:
 def find_sites(store: Database, stations: Sequence[str]) -> dict[str, str]:
     """The sites of those of these stations that are planned."""
     asked = "select station, site from station where station = :station"
+    if not stations:
+        return {}
     if store.kind == "postgresql":
         rows = store.fetch(
             "select station, site from station where station = any(:stations)",
