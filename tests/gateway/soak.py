@@ -91,7 +91,7 @@ class Scene:
                 if random.random() < 0.5:
                     name = f"L-{random.randrange(self.words.stations)}"
                     status = await find_status(
-                        f"ws://127.0.0.1:{port}/ocpp", name, "a wrong password.", open_timeout=20
+                        f"ws://127.0.0.1:{port}/ocpp", name, "a wrong password."
                     )
                     self.counts[f"strangers got {status}"] += 1
                 else:
@@ -141,7 +141,9 @@ class Scene:
         with open_store(self.name) as store:
             (row,) = store.fetch("select count(*) as n from line")
             verified = verify(store)
-        print(f"{row.n} lines; {verified.figures} figures compared: {verified.difference or 'all right'}")
+        print(
+            f"{row.n} lines; {verified.figures} figures compared: {verified.difference or 'all right'}"
+        )
         is_right = not verified.difference and not seen.odd
         is_right &= len(seen.waits) <= row.n <= len(seen.waits) + self.words.stations
         return 0 if is_right else 1
