@@ -91,7 +91,7 @@ class Scene:
                 if random.random() < 0.5:
                     name = f"L-{random.randrange(self.words.stations)}"
                     status = await find_status(
-                        f"ws://127.0.0.1:{port}/ocpp", name, "a wrong password.", open_timeout=20
+                        f"ws://127.0.0.1:{port}/ocpp", name, "a wrong password."
                     )
                     self.counts[f"strangers got {status}"] += 1
                 else:
@@ -132,6 +132,8 @@ class Scene:
         part = Seen(waits=untouched)
         print(f"faults and strangers: {dict(self.counts)}")
         print(f"all messages: {seen.report()}")
+        for line in seen.odd[:5]:
+            print(line)
         print(
             f"{len(untouched)} untouched: median / 99th / longest {part.wait(0.5):.0f} / {part.wait(0.99):.0f} / "
             f"{part.wait(1):.0f} ms"

@@ -1,5 +1,5 @@
-"""Copies of a store by the tools of its database: VACUUM INTO, pg_basebackup with a replay of the log, and a standby that
-is promoted while stations send. Each copy ends with `verify`."""
+"""Copies of a store by the tools of its database: VACUUM INTO, pg_basebackup with a replay of the log, and a standby
+that is promoted while stations send. Each copy ends with `verify`."""
 
 import asyncio
 import shutil

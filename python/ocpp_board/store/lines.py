@@ -17,6 +17,8 @@ sent_id token token_type remote_start_id signed holes reading_moments boundary_m
 received_until""".split()
 # The columns of a line, in the order of `records.Line`.
 LINE = "station transaction_id number line received who why origin".split()
+# Those columns of a transaction that have what its station sent.
+SENT = ("stopped_reason", "sent_id", "token", "token_type", "remote_start_id", "signed")
 PART = "starts up down export_up export_down on_board measured shared numbers_missing".split()
 FINDING = "kind times first_at detail".split()
 OF_SESSION = "station = :station and transaction_id = :transaction"
@@ -98,6 +100,8 @@ def name_keys(keys: Iterable[Key]) -> list[dict[str, str]]:
 def find_sites(store: Database, stations: Sequence[str]) -> dict[str, str]:
     """The sites of those of these stations that are planned."""
     asked = "select station, site from station where station = :station"
+    if not stations:
+        return {}
     if store.kind == "postgresql":
         rows = store.fetch(
             "select station, site from station where station = any(:stations)",
@@ -283,7 +287,8 @@ class Writer:
         """Collects the accepted lines of a transaction, and its rows."""
         front = {"station": key[0], "transaction_id": key[1]}
         self.lines += [(*key, *line) for line in accepted]
-        session = {name: clean_text(value) for name, value in session.items()}
+        for name in SENT:
+            session[name] = clean_text(session[name])
         self.sessions.append(front | {"site": held.site, "changed_at": self.at} | session)
         self.rows[key] = held, parts, findings
         if self.keeps:
@@ -340,9 +345,9 @@ def insert_lines(store: Database, rows: Sequence[tuple[Any, ...]]) -> None:
     )
 
 
-def clean_text(text: Any) -> Any:
+def clean_text(text: str) -> str:
     """A text as both databases keep it: without the character 0, and without half a surrogate pair."""
-    if not isinstance(text, str) or text.isascii() and "\0" not in text:
+    if text.isascii() and "\0" not in text:
         return text
     return text.replace("\0", "\ufffd").encode("utf-8", "replace").decode()
 
