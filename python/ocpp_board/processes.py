@@ -2,6 +2,7 @@
 
 import os
 import select
+import signal
 import stat
 import sys
 import threading
@@ -23,6 +24,11 @@ def environment() -> dict[str, str]:
     """The environment in which another process finds this package."""
     path = os.pathsep.join(filter(None, [str(PACKAGES), os.environ.get("PYTHONPATH")]))
     return os.environ | {"PYTHONPATH": path}
+
+
+def leave_interrupts() -> None:
+    """Has a process of a pool leave an interrupt, which a terminal sends to all, to the process that has the pool."""
+    signal.signal(signal.SIGINT, signal.SIG_IGN)
 
 
 def replay_environment() -> dict[str, str]:

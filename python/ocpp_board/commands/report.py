@@ -39,6 +39,7 @@ from ocpp_board.commands.reading import BatchReader, Meter, ReadOptions
 from ocpp_board.errors import InputError
 from ocpp_board.ledger.settlers import Settlers
 from ocpp_board.ledger.verify import verify
+from ocpp_board.processes import leave_interrupts
 from ocpp_board.sources import forms
 from ocpp_board.sources.forms import Shape, choose_shape
 from ocpp_board.sources.stations import add_rules, add_sites, add_utc, choose_plan
@@ -238,7 +239,7 @@ def open_pool(processes: int) -> Iterator[Any]:
     if processes == 1:
         yield None
         return
-    with multiprocessing.get_context("fork").Pool(processes) as pool:
+    with multiprocessing.get_context("fork").Pool(processes, leave_interrupts) as pool:
         yield pool
 
 

@@ -16,6 +16,7 @@ import sys
 from ocpp_board.commands.options import add_program, add_store, choose_program
 from ocpp_board.errors import InputError
 from ocpp_board.ledger.verify import Verified, verify
+from ocpp_board.processes import leave_interrupts
 from ocpp_board.statuses import Status
 from ocpp_board.store.database import open_store
 
@@ -51,7 +52,9 @@ def run(words: argparse.Namespace) -> int:
             if store.fetch_one("select 1 as one from site where site = :site", site=site) is None:
                 raise InputError(f"there is no site {site!r} in {words.store}")
         if words.processes > 1:
-            with multiprocessing.get_context("forkserver").Pool(words.processes) as pool:
+            with multiprocessing.get_context("forkserver").Pool(
+                words.processes, leave_interrupts
+            ) as pool:
                 verified = verify(store, words.site, pool)
         else:
             verified = verify(store, words.site)

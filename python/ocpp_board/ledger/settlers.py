@@ -8,6 +8,7 @@ from types import TracebackType
 from zlib import crc32
 
 from ocpp_board.ledger.engine import settle
+from ocpp_board.processes import leave_interrupts
 from ocpp_board.records import Answer, Asked
 from ocpp_board.store.database import Database, open_store
 
@@ -21,6 +22,7 @@ class Settler:
 
 def open_settler(name: str, is_durable: bool, guard: Lock) -> None:
     """Opens the store in a process that settles."""
+    leave_interrupts()
     Settler.store, Settler.guard = open_store(name, is_durable), guard
 
 
