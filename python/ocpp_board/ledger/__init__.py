@@ -9,6 +9,8 @@
     refusals    why a message was refused, in words
     engine      settles texts and operators' lines in a store, and answers them
     scripts     whole scripts of a site's lines
+    replay      a whole script line by line, for `explain`
+    near_limits, repeat_hints   what `explain` reports beside mistakes
     settlers    processes that settle at once
     verify      compares a store's views with the boards of whole scripts
     corrections  corrects readings: void, erasure and the right message in one step

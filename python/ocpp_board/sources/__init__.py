@@ -4,7 +4,3 @@ A source yields records (`ocpp_board.records`) and knows nothing of the store. `
 makes messages of them, `mend` puts vendors' faults right, `stations` says which site a station has, `follow` reads a
 log that grows and is rotated, and `script` reads scripts.
 """
-
-from ocpp_board.sources.files import is_gzip, open_input as opened, unpack as unpacked
-
-__all__ = ["is_gzip", "opened", "unpacked"]
