@@ -1,13 +1,16 @@
-"""The tools beside `ocpp_board`, the transaction ledger: logs to scripts, boards to pages, and the fleet.
+"""What is around `ocpp_board`, the proved transaction ledger: logs, the store, gateways, pages and bills.
 
-    commands    the tools outside the fleet: log-to-script, tables, live, explain
-    logs        logs of a CSMS, and the scripts that are made of them
-    replay      the program's replay as a process, its answers, and boards as text
+    sources     logs of a CSMS in all their forms, logs that grow, and scripts
     messages    what only a message has: JSON, times, readings, why it is refused
-    reports     tables, pages, pictures and findings
-    fleet       gateways, workers, feeds, the page and the closings, on PostgreSQL
+    ledger      runs the proved program, reads its answers, and settles lines in a store
+    store       the database: tables, views, the plan, closings
+    writers     CSV tables, pages, bills
+    gateway     takes stations' connections
+    feed        takes the queues of a CSMS
+    web         pages in a browser, operators, and the API
+    commands    the commands of `ocpp-board`
 
-What all of these use is here: cli (the command `ocpp-board`), words (options that several tools take), statuses (how a
-tool ends), reporting (what tools write to standard error), progress, sources and processes (files and programs), limits
-(those of the program), energies, escapes, whole_files and shared_work.
+What all of these use is here: cli (the command `ocpp-board`), errors, statuses (how a command ends), reporting (what
+commands write to standard error), progress, records (what packages hand to each other), limits (those of the program),
+energies, escapes, words, passwords and processes.
 """

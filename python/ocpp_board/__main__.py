@@ -1,4 +1,4 @@
-"""`python3 -m ocpp_board TOOL ..`, as the command `ocpp-board`."""
+"""`python3 -m ocpp_board COMMAND ..`, as the command `ocpp-board`."""
 
 import sys
 

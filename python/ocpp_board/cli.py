@@ -1,63 +1,55 @@
-"""The command `ocpp-board`: each tool is one word of it.
+"""The command `ocpp-board`: each command is one word of it.
 
-    ocpp-board TOOL [WORD..]
-    ocpp-board-TOOL [WORD..]      the same, where the command is installed under such a name
+    ocpp-board COMMAND [WORD..]
+    ocpp-board-COMMAND [WORD..]      the same, where it is installed under such a name
 
-`ocpp-board TOOL --help` says what a tool does and which words it takes.
+`ocpp-board COMMAND --help` says what a command does and which words it takes.
 """
 
 import argparse
 import importlib
 import sys
-from collections.abc import Sequence
+from collections.abc import Callable, Sequence
 from pathlib import Path
-from typing import NamedTuple
+from types import ModuleType
 
-from ocpp_board.statuses import Status
+from ocpp_board import reporting
+from ocpp_board.statuses import Status, ended
 from ocpp_board.version import version
+from ocpp_board.words import Parser
 
 COMMAND = "ocpp-board"
-
-
-class Tool(NamedTuple):
-    """A tool: the module with its `main`, and what it does in one line."""
-
-    module: str
-    about: str
-
-
-TOOLS = {
-    "log-to-script": Tool(
-        "commands.log_to_script", "turns the message log of a CSMS into a script"
-    ),
-    "tables": Tool("commands.tables", "turns boards into CSV tables and pages"),
-    "live": Tool("commands.live", "keeps the pages and tables of a ledger that still grows"),
-    "explain": Tool("commands.explain", "says what is wrong with a script"),
-    "gateway": Tool("fleet.gateway.gateway", "fleet: takes charging stations' connections"),
-    "worker": Tool("fleet.worker.worker", "fleet: replays the log and answers"),
-    "page": Tool("fleet.web.page", "fleet: shows all boards in a browser"),
-    "feed": Tool("fleet.feed.feed", "fleet: appends the events of a CSMS"),
-    "close-day": Tool("fleet.closing.close_day", "fleet: closes a site's settlement day"),
-    "compact": Tool("fleet.closing.compact", "fleet: removes repeats from a shard's log"),
-    "move": Tool("fleet.admin.move", "fleet: moves a shard to another cell"),
-    "close-requested": Tool(
-        "fleet.closing.close_requested", "fleet: does closings that were asked for"
-    ),
-    "place": Tool("fleet.admin.place", "fleet: chooses cell and shard for a new station"),
-    "password": Tool("fleet.admin.set_password", "fleet: sets the password of a station"),
-    "operator": Tool("fleet.admin.set_operator", "fleet: makes operators of the page, and tokens"),
-    "billing": Tool("fleet.closing.billing", "fleet: writes a site's month of transactions as CSV"),
-    "forget": Tool("fleet.closing.forget", "fleet: takes drivers' tokens out of log and archives"),
-    "backup": Tool("fleet.admin.backup", "fleet: backs up a cell with its archives"),
-    "restore": Tool("fleet.admin.restore", "fleet: brings a backup of a cell back"),
+# The commands and what they do in one line. A command is the module of its name in `ocpp_board.commands`.
+COMMANDS = {
+    "report": "turns logs or a script into tables and pages",
+    "follow": "keeps a store and its pages beside a CSMS that writes logs",
+    "gateway": "takes charging stations' connections",
+    "feed": "takes the events of queues",
+    "web": "shows a store's pages in a browser, takes operators' deeds, and answers programs",
+    "plan": "shows and changes sites, stations, passwords and operators",
+    "operator": "says who may use web: operators, passwords, tokens",
+    "operate": "voids, restores and erases events",
+    "close-day": "closes a site's settlement days",
+    "corrections": "lists what closings changed of settled figures",
+    "correct": "corrects readings: void, erasure and the right message in one step",
+    "lacking": "lists sessions that lack messages and went silent",
+    "settle-by-rule": "settles sessions that stay incomplete",
+    "adjust": "declares a fact beside a session's number: an exchanged meter, an estimate, a credit",
+    "release": "releases sessions that are held, or lists them",
+    "bills": "writes a site's month of sessions as CSV, for billing",
+    "settlement": "writes a site's month of energy by metering point",
+    "forget": "takes drivers' tokens out of a store, and old transactions",
+    "verify": "compares a store with the boards of the program",
+    "export": "writes a script that has a store's lines",
+    "explain": "says what is wrong with a script",
+    "log-to-script": "turns the message log of a CSMS into a script",
 }
-
-
-# What tools need besides Python: packages, and Debian's packages that have them.
+# What commands need besides Python: packages, and Debian's packages that have them.
 PACKAGES = {
-    "ocpp_board.fleet": "ocpp-board-fleet",
-    "asyncpg": "python3-asyncpg",
+    "psycopg": "python3-psycopg",
     "websockets": "python3-websockets",
+    "cryptography": "python3-cryptography",
+    "prometheus_client": "python3-prometheus-client",
     "starlette": "python3-starlette",
     "uvicorn": "python3-uvicorn",
     "jinja2": "python3-jinja2",
@@ -66,47 +58,59 @@ PACKAGES = {
 }
 
 
-def arguments(argv: Sequence[str]) -> argparse.Namespace:
-    """The tool that the words name, and the words behind it, which are the tool's own."""
-    tools = "\n".join(f"  {name:16}{tool.about}" for name, tool in TOOLS.items())
-    parser = argparse.ArgumentParser(
-        prog=COMMAND,
-        usage=f"{COMMAND} TOOL [WORD..]",
-        description=f"{__doc__}\ntools:\n{tools}\n",
-        formatter_class=argparse.RawDescriptionHelpFormatter,
+def name_module(name: str) -> str:
+    """The module of a command."""
+    return f"ocpp_board.commands.{name.replace('-', '_')}"
+
+
+def make_parser(name: str, module: ModuleType | None, prog: str = COMMAND) -> Parser:
+    """The parser of all commands; that of this name has its words. `prog`: what its usage shows."""
+    parser = Parser(
+        prog=prog, description=__doc__, formatter_class=argparse.RawDescriptionHelpFormatter
     )
     parser.add_argument("--version", action="version", version=f"{COMMAND} {version()}")
-    parser.add_argument("tool", metavar="TOOL", choices=TOOLS, help="one of the tools above")
-    parser.add_argument(
-        "words", nargs=argparse.REMAINDER, metavar="WORD", help="the tool's own words"
-    )
-    return parser.parse_args(argv)
+    group = parser.add_subparsers(dest="command", metavar="COMMAND", title="commands")
+    for one, about in COMMANDS.items():
+        child = group.add_parser(
+            one, help=about, formatter_class=argparse.RawDescriptionHelpFormatter
+        )
+        if one == name and module:
+            child.description = module.__doc__
+            reporting.add_option(child)
+            child.epilog = getattr(module, "ENDING", None)
+            module.add_words(child)
+            child.set_defaults(run=module.run, parser=child)
+    return parser
 
 
 def main(argv: Sequence[str] | None = None) -> int:
-    """Runs the tool that the first word names, or the name under which the command was called. Gives its status."""
+    """Runs the command that the first word names, or the name under which it was called. Gives its status."""
     words = list(sys.argv[1:] if argv is None else argv)
-    called = Path(sys.argv[0]).name
-    name = called.removeprefix(f"{COMMAND}-")
-    if argv is None and name in TOOLS and called != name:
-        return run(name, words, called)
-    asked = arguments(words)
-    return run(asked.tool, asked.words, f"{COMMAND} {asked.tool}")
-
-
-def run(name: str, words: Sequence[str], prog: str) -> int:
-    """Runs a tool under the name that its usage shows, and gives its exit status."""
+    called = Path(sys.argv[0]).name.removeprefix(f"{COMMAND}-")
+    if argv is None and called in COMMANDS:
+        words = [called, *words]
+    name = words[0] if words else ""
     try:
-        module = importlib.import_module(f"ocpp_board.{TOOLS[name].module}")
+        return run_command(name, words)
     except ModuleNotFoundError as fault:
-        package = PACKAGES.get(fault.name or "")
+        package = PACKAGES.get((fault.name or "").partition(".")[0])
         if package is None:
             raise
         print(
-            f"{prog}: there is no package `{fault.name}` for this python3 (Debian: apt-get install "
+            f"{COMMAND} {name}: there is no package `{fault.name}` for this python3 (Debian: apt-get install "
             f"{package}, and /usr/bin/python3)",
             file=sys.stderr,
         )
         return Status.MISTAKEN
-    status: int = module.main(words, prog)
-    return status
+
+
+def run_command(name: str, words: Sequence[str]) -> int:
+    """Runs a command, and gives its exit status."""
+    module = importlib.import_module(name_module(name)) if name in COMMANDS else None
+    asked = make_parser(name, module).parse_args(words)
+    if asked.command is None:
+        make_parser(name, module).print_help()
+        return Status.DONE
+    reporting.set_up(asked.parser.prog, asked.log_json)
+    run: Callable[[argparse.Namespace], int] = asked.run
+    return ended(lambda: run(asked))

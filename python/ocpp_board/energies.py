@@ -1,8 +1,8 @@
 """Energies in whole milliwatt-hours: what registers rose and fell by, and how that is written in kWh."""
 
-from collections.abc import Iterable, Mapping
+from collections.abc import Iterable
 from functools import lru_cache
-from typing import Any, NamedTuple
+from typing import NamedTuple
 
 # The names of a flow's numbers, in the order in which a board has them.
 FLOW = ("up", "down", "export_up", "export_down")
@@ -37,16 +37,9 @@ class Flow(NamedTuple):
 
     def plus(self, other: "Flow") -> "Flow":
         """Both together."""
-        return Flow(*(a + b for a, b in zip(self, other)))
-
-    def minus(self, other: "Flow") -> "Flow":
-        """By how much this is more than another one."""
-        return Flow(*(a - b for a, b in zip(self, other)))
-
-
-def flow_of(numbers: Mapping[str, Any]) -> Flow:
-    """The flow among numbers by name. A program that knows no exported energy has none of it."""
-    return Flow(*(int(numbers.get(name, 0)) for name in FLOW))
+        a, b, c, d = self
+        e, f, g, h = other
+        return Flow(a + e, b + f, c + g, d + h)
 
 
 def sum_of(flows: Iterable[Flow]) -> Flow:

@@ -1,9 +1,7 @@
-"""Texts that others wrote, for a terminal, for a spreadsheet, and as PostgreSQL's COPY escapes them."""
+"""Texts that others wrote, for a terminal and for a spreadsheet."""
 
 import re
 
-COPY_ESCAPE = re.compile(r"\\(.)")
-COPY_CHARACTERS = {"b": "\b", "f": "\f", "n": "\n", "r": "\r", "t": "\t", "v": "\v"}
 CONTROL = re.compile(r"[\x00-\x1f\x7f-\x9f]")
 FORMULA = tuple("=+-@")
 
@@ -21,8 +19,3 @@ def without_controls(text: str) -> str:
 def csv_cell(text: str) -> str:
     """The text for a CSV file, with a ' in front where a spreadsheet would take it for a formula."""
     return "'" + text if text.startswith(FORMULA) else text
-
-
-def from_copy(text: str) -> str:
-    """The text that a column of PostgreSQL's COPY text format means."""
-    return COPY_ESCAPE.sub(lambda found: COPY_CHARACTERS.get(found[1], found[1]), text)

@@ -1,4 +1,4 @@
-"""How a tool ends: its exit statuses, the fault that ends it, and the one place where faults become statuses."""
+"""How a command ends: its exit statuses, and the one place where faults become statuses."""
 
 import logging
 import os
@@ -6,11 +6,13 @@ import sys
 from collections.abc import Callable
 from enum import IntEnum
 
+from ocpp_board.errors import OcppBoardError
+
 log = logging.getLogger(__name__)
 
 
 class Status(IntEnum):
-    """The exit statuses of all tools."""
+    """The exit statuses of all commands."""
 
     DONE = 0
     # Something was reported: a line that was not taken, a board that is not whole, a mistake of a script.
@@ -20,17 +22,13 @@ class Status(IntEnum):
     INTERRUPTED = 130
 
 
-class Mistaken(Exception):
-    """What is wrong with the words or with a file that they name, in one sentence."""
-
-
 def drop_output() -> None:
     """Gives up what standard output did not take, which would be tried again when the program ends."""
     os.dup2(os.open(os.devnull, os.O_WRONLY), sys.stdout.fileno())
 
 
 def ended(work: Callable[[], int]) -> int:
-    """Does a tool's work and gives its status; a fault of files or words is reported, a reader who left is not."""
+    """Does a command's work and gives its status; a fault of files or words is reported, a reader who left is not."""
     try:
         status = work()
         sys.stdout.flush()
@@ -39,7 +37,11 @@ def ended(work: Callable[[], int]) -> int:
         return Status.INTERRUPTED
     except BrokenPipeError:
         drop_output()
-    except (OSError, UnicodeDecodeError, Mistaken) as fault:
+    except (OSError, UnicodeDecodeError) as fault:
         log.error("%s", fault)
         drop_output()
+    except OcppBoardError as fault:
+        log.error("%s", fault)
+        drop_output()
+        return fault.status
     return Status.MISTAKEN

@@ -25,14 +25,16 @@ With `month` comes the log of a month of N stations at two sites, with findings 
     tests/one traffic 8 month | ocpp-board log-to-script --received | ocpp_board replay
 """
 
+import argparse
 from collections.abc import Iterator, Sequence
 from dataclasses import dataclass
 from datetime import datetime, timedelta, timezone
 
+from ocpp_board import reporting
 from ocpp_board.limits import GREATEST_LIMITS, MOMENT, MOST_READINGS, MOST_STATIONS
 from ocpp_board.statuses import Status, ended
 from tests.traffic import month_traffic, repeats, troubles
-from ocpp_board.words import parsed, parser_of
+from ocpp_board.words import Parser
 
 # Events of a session, seconds from one to the next, and what the register reads first and rises by each time, in Wh.
 SESSION, STEP, START, RISE = 48, 300, 1000, 250
@@ -111,7 +113,9 @@ class Options:
 
 def arguments(argv: Sequence[str], prog: str) -> Options:
     """What the words ask for. Wrong ones end the program with status 2."""
-    parser = parser_of(prog, __doc__)
+    parser = Parser(
+        prog=prog, description=__doc__, formatter_class=argparse.RawDescriptionHelpFormatter
+    )
     parser.add_argument(
         "count",
         type=int,
@@ -132,7 +136,8 @@ def arguments(argv: Sequence[str], prog: str) -> Options:
         metavar="COUNT",
         help="how many stations take turns, up to 64 (default: as few as have room)",
     )
-    words = parsed(parser, argv)
+    words = parser.parse_args(argv)
+    reporting.set_up(prog)
     if words.count < 0 or words.kind is None and words.count > MOST_READINGS:
         parser.error(f"N is from 0 to {MOST_READINGS:,}")
     if words.kind in SESSIONS and words.count > SESSIONS[words.kind]:

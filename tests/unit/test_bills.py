@@ -1,9 +1,7 @@
 """What a bill needs of a session: its id as sent, its token, and its signed values."""
 
 import base64
-import csv
 import hashlib
-import json
 from pathlib import Path
 from typing import Any
 from xml.etree import ElementTree
@@ -20,10 +18,7 @@ from ocpp_board.messages.bills import (
     file_of,
     write_signed,
 )
-from ocpp_board.replay.ledger import Ledger
-from ocpp_board.commands import tables
-from ocpp_board.statuses import Status
-from tests.traffic.troubles import FIRST, KINDS, Session, messages, sound
+from tests.traffic.troubles import FIRST, sound
 
 OCMF = 'OCMF|{"RD":[{"RV":1.0,"RU":"kWh"}]}|{"SD":"00"}'
 KEY = base64.b64encode(b"oca:base16:asn1:3059aa").decode()
@@ -93,39 +88,3 @@ def test_a_file_has_both_values_with_their_keys(tmp_path: Path) -> None:
 def test_names_of_files_differ_where_sessions_do() -> None:
     names = {file_of(station, tx) for station in ("a", "a.b") for tx in ("b.c", "c", "../c", "C")}
     assert len(names) == 8 and all("/" not in name and not name.startswith(".") for name in names)
-
-
-@pytest.mark.parametrize("how", ["none", "plain"])
-def test_tables_have_what_a_bill_needs(how: str, reference: str, tmp_path: Path) -> None:
-    session: Session = KINDS["signed-differs"]("T-Big", FIRST)
-    session[0].payload["idToken"] = {"idToken": "=SUM(A1)", "type": "ISO14443"}
-    session[0].payload["transactionInfo"]["remoteStartId"] = 42
-    lines = [line for line in messages("A", session) if line.startswith("msg")]
-    script = "station north A\n" + "\n".join(lines) + "\nboard north\n"
-    (tmp_path / "script").write_text(script)
-    ledger = Ledger(reference, [], lambda _refusal: None)
-    for line in script.splitlines(keepends=True):
-        ledger.send(line.encode())
-    ledger.flush()
-    (tmp_path / "text").write_bytes(ledger.ask(b"board north"))
-    ledger.close()
-    words = [
-        "--script",
-        str(tmp_path / "script"),
-        "--program",
-        reference,
-        "--out",
-        str(tmp_path / "x"),
-    ]
-    words += ["--tokens", how, str(tmp_path / "text")]
-    assert tables.main(words, "tables") == Status.DONE
-    (row,) = csv.DictReader((tmp_path / "x.transactions.csv").read_text().splitlines())
-    assert (row["transaction"], row["id as sent"], row["remoteStartId"]) == ("t-big", "T-Big", "42")
-    assert row["idToken"] == ("'=SUM(A1)" if how == "plain" else "")
-    last = json.loads(base64.b64decode(row["last signed value"]).decode().split("|")[1])
-    assert last["RD"][0]["RV"] == 2.75 and base64.b64decode(row["first public key"]).startswith(
-        b"oca:"
-    )
-    root = ElementTree.parse(tmp_path / "x.signed" / "A.T-Big.xml").getroot()
-    assert len(root) == 2 and "=SUM(A1)" not in (tmp_path / "x.html").read_text()
-    assert ("=SUM(A1)" in (tmp_path / "x.transactions.csv").read_text()) == (how == "plain")

@@ -4,7 +4,7 @@ import re
 from collections.abc import Iterator
 from pathlib import Path
 
-from ocpp_board.cli import TOOLS
+from ocpp_board.cli import COMMANDS
 
 TOP = Path(__file__).resolve().parents[2]
 # A path from the top of the repository. Patterns and what a build makes are left out.
@@ -20,10 +20,6 @@ CODE = re.compile(r"`([^`\n]+)`")
 # A command of the tests, and its options.
 TEST = re.compile(r"tests/one ([a-z_]+(?:\.[a-z_]+)*)([^`]*)")
 OPTION = re.compile(r"(?<= )--[a-z-]+")
-# The page of how far a fleet goes, which is one screen: what is measured of its parts, by which program, and for how
-# many stations it says what breaks first.
-SCALE, SCREEN, MEASURE = TOP / "docs/fleet-scale.md", 40, "fleet.measure"
-PARTS, SIZES = {"gateway", "worker", "cell"}, {"10,000", "100,000", "1,000,000"}
 # Words of a paragraph, which is one line, and lines of README.
 MOST_WORDS, MOST_LINES = 120, 125
 
@@ -88,7 +84,7 @@ def test_paragraphs_are_short() -> None:
 
 
 def test_tools_are_those_of_the_command() -> None:
-    assert not {(page, tool) for page, tool in found(TOOL) if tool not in TOOLS}
+    assert not {(page, tool) for page, tool in found(TOOL) if tool not in COMMANDS}
 
 
 def unknown_options(module: str, words: str) -> set[str]:
@@ -106,28 +102,3 @@ def test_commands_of_tests_are_there() -> None:
     commands = {(page, *match) for page, match in found(TEST)}
     unknown = {(page, module, *unknown_options(module, words)) for page, module, words in commands}
     assert commands and not {one for one in unknown if len(one) > 2}
-
-
-def test_commands_of_the_fleet_name_the_program_that_replays() -> None:
-    modules = {
-        name: TOP / f"python/ocpp_board/{tool.module.replace('.', '/')}.py"
-        for name, tool in TOOLS.items()
-    }
-    replays = {name for name, path in modules.items() if "add_program(" in path.read_text()}
-    texts = ["\n".join(code(page.read_text("utf-8"))).replace("\\\n", " ") for page in pages()]
-    commands = [line for text in texts for line in text.splitlines() if "--db " in line]
-    named = [(tool, line) for line in commands for tool in TOOL.findall(line) if tool in replays]
-    assert {"page", "billing", "forget"} <= {tool for tool, _ in named}
-    assert not [line for _, line in named if "--program " not in line]
-
-
-def test_the_page_of_scale_says_what_is_measured_and_what_breaks_first() -> None:
-    lines = SCALE.read_text("utf-8").splitlines()
-    rows = [[cell.strip() for cell in line.split("|")[1:-1]] for line in lines if "|" in line]
-    measured = [row for row in rows if row[0].partition(",")[0] in PARTS]
-    broken = [row for row in rows if row[0] in SIZES]
-    assert len(lines) <= SCREEN and all(map(all, measured + broken))
-    assert {row[0].partition(",")[0] for row in measured} == PARTS
-    assert {row[0] for row in broken} == SIZES
-    for _, holds, commands in measured:
-        assert re.search("[0-9]", holds) and not unknown_options(MEASURE, f" {commands}")

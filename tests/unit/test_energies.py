@@ -2,7 +2,7 @@
 
 import pytest
 
-from ocpp_board.energies import Flow, flow_of, kwh, kwh_of, share, sum_of
+from ocpp_board.energies import Flow, kwh, kwh_of, share, sum_of
 
 
 @pytest.mark.parametrize(
@@ -54,9 +54,4 @@ def test_net_is_import_less_export() -> None:
 def test_flows_are_added_number_by_number() -> None:
     one, other = Flow(1, 2, 3, 4), Flow(10, 20, 30, 40)
     assert one.plus(other) == sum_of([one, other]) == Flow(11, 22, 33, 44)
-    assert other.minus(one) == Flow(9, 18, 27, 36)
     assert sum_of([]) == Flow()
-
-
-def test_a_program_without_export_has_none() -> None:
-    assert flow_of({"up": "5", "down": 6, "events": 1}) == Flow(5, 6, 0, 0)

@@ -9,7 +9,6 @@ from ocpp_board.messages.texts import (
     has_moment,
     is_answer,
     members_of,
-    msg_line,
     object_of,
     one_line,
     parsed,
@@ -94,17 +93,6 @@ def test_line_feeds_become_blanks_where_it_is_json() -> None:
     assert one_line('[2,\n"1"]') == '[2, "1"]'
     assert one_line("no\nJSON\0") == "no\x01JSON\x01"
     assert one_line("[]") == "[]"
-
-
-def test_the_line_of_a_message() -> None:
-    assert msg_line("A", "[2,\n]") == b"msg A [2, ]\n"
-    assert msg_line("A", "[]\r") == b"msg A []\r\r\n"
-    with pytest.raises(Refused, match="half a surrogate pair"):
-        msg_line("A", '"\ud800"')
-    longest = 262_400 - len("msg A ")
-    assert len(msg_line("A", "x" * longest)) == 262_401
-    with pytest.raises(Refused, match="more than 262,400 bytes: 262,401"):
-        msg_line("A", "x" * (longest + 1))
 
 
 def test_the_head_of_a_call() -> None:

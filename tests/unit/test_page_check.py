@@ -1,23 +1,20 @@
 """The check of pages: it finds what is missing, and nothing on a page that has all."""
 
-from datetime import datetime, timedelta, timezone
 from pathlib import Path
 
 import pytest
+from markupsafe import Markup
 
-from ocpp_board.energies import Flow
-from ocpp_board.replay.boards import Part, Period, Session, Total
-from ocpp_board.reports.board_pages import Layout
-from ocpp_board.reports.calendars import Calendar
-from ocpp_board.reports.page_sections import DayPart, bar_cell, day_of_part, sections_of
-from ocpp_board.reports.pages import Column, Row, columns_of
-from ocpp_board.reports.pictures import Scale
-from ocpp_board.reports.quality import Finding, Kind
-from ocpp_board.reports.rendering import piece
+from ocpp_board.writers.pages.render import load_environment
 from tests.page_check import Check, color_of, contrast
 from tests.page_tree import Tree, fits, rules_of
-from tests.unit.framed import framed
 
+# A page in the frame of all pages.
+TEMPLATE = """{% extends "base.html" %}
+{% block about %}{{ about }}{% endblock %}
+{% block main %}{{ body }}{% endblock %}
+"""
+FRAME = ("whole", "refresh", "operator", "bar", "trail", "stamp")
 PICTURE = '<svg role="img" aria-label="Bars"><path class="up" d="M0 0h1v1z"/></svg>'
 SECTION = '<section aria-labelledby="a"><h2 id="a">Day</h2>'
 PERIODS = '<table><caption>c</caption><tr><th scope="col">a<th scope="col">b<tr><th scope="row">x<td>1</table>'
@@ -25,7 +22,10 @@ BODY = f'{SECTION}{PICTURE}{PERIODS}<a href="#a">up</a></section>\n'
 
 
 def page(body: str = BODY, style: str = "") -> str:
-    text = framed(body, '<p class="warning">old</p>')
+    values: dict[str, object] = {"title": "Title", "body": Markup(body)}
+    values |= dict.fromkeys(FRAME)
+    values["about"] = Markup('<p class="warning">old</p>')
+    text: str = load_environment().from_string(TEMPLATE).render(values)
     return text.replace("</style>", style + "</style>", 1)
 
 
@@ -36,31 +36,7 @@ def found(text: str, folder: Path) -> list[str]:
 
 
 def test_a_page_that_has_all_is_fine(tmp_path: Path) -> None:
-    columns = columns_of("Site", " Zone", Column("Bar", "wide", True))
-    more = piece("sites_table", "All", columns, [Row(["n", "UTC", ""])])
-    assert found(page(BODY + more), tmp_path) == []
-
-
-def test_all_that_pages_are_made_of_is_fine(tmp_path: Path) -> None:
-    """Marks, warnings, strips, findings and each kind of bar: their contrasts are looked at in light and in dark."""
-    day = datetime(2026, 3, 1, tzinfo=timezone.utc)
-    flows = [Flow(5, 2, 3, 1), Flow()]
-    periods = [Period(day + n * timedelta(minutes=15), 900, flow) for n, flow in enumerate(flows)]
-    total = Total(3, 1, 1, 0, 2, flows[0])
-    session = Session("t", 1, 3, 0, 4, False, 2, flows[0], [(1, 2)], "numbers missing")
-    session.findings = [Finding(Kind.CLOCK_BACK, 2)]
-    part = Part("A", False, 900, False, total, [], periods, [session])
-    scale, calendar = Scale(flows), Calendar()
-    parts = [*sections_of(part, "s", calendar, True)]
-    parts.append(day_of_part(DayPart(part, "d", day.date(), periods, scale), calendar, True))
-    columns = columns_of("Site", Column("Bar", "bar"))
-    parts.append(piece("table", "All", columns, [Row(["A", bar_cell(-1, 2)])], "plain"))
-    stamp = Layout(str(tmp_path / "page"), calendar, day, refused=1).stamp(None)
-    (tmp_path / "page.refused.csv").touch()
-    text = framed("<h2>A</h2>" + "".join(parts), stamp)
-    for kind in ("up", "down", "out", "back", "still", "zero", "gap", "less", "flag", "refused"):
-        assert f'class="{kind}"' in text
-    assert found(text, tmp_path) == []
+    assert found(page(), tmp_path) == []
 
 
 @pytest.mark.parametrize(

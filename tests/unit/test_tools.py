@@ -1,68 +1,56 @@
-"""The command, what tools report, and the tools that write or explain scripts."""
+"""The command, what commands report, and `explain`."""
 
 import gzip
-import io
 import json
 import logging
 import subprocess
 import sys
+from collections.abc import Sequence
 from pathlib import Path
 
 import pytest
 
-from ocpp_board import cli, processes, statuses
-from ocpp_board.commands import log_to_script
-from ocpp_board.commands.explain import Plan, Run
-from tests.traffic.script import arguments, event, script, unchanging
-from ocpp_board.escapes import csv_cell, from_copy, shown
+from ocpp_board import cli, statuses
+from ocpp_board.commands.explain import Plan, explain
+from ocpp_board.errors import InputError, UsageError
+from ocpp_board.escapes import csv_cell, shown
+from ocpp_board.ledger.answers import Wish
+from ocpp_board.ledger.program import ProcessProgram
+from ocpp_board.ledger.replay import Replayed, replay
 from ocpp_board.messages.message_faults import message_fault
 from ocpp_board.processes import TUNABLES
-from ocpp_board.replay import answered
-from ocpp_board.replay.answered import Replay, ScriptReplay
-from ocpp_board.replay.line_faults import bad_line
-from ocpp_board.commands import tables
-from ocpp_board.statuses import Mistaken, Status
 from ocpp_board.reporting import JsonFormatter, PlainFormatter
-from tests.traffic import repeats
-from tests.traffic.troubles import KINDS, MOST_SESSIONS, script as troubled
+from ocpp_board.sources.lines import explain_line
+from ocpp_board.statuses import Status
 from ocpp_board.version import version
+from tests.traffic import repeats
+from tests.traffic.script import arguments, event, script, unchanging
+from tests.traffic.troubles import KINDS, MOST_SESSIONS, script as troubled
+
+TOP = Path(__file__).parents[2]
 
 
 def record(level: int, text: str, **more: object) -> logging.LogRecord:
-    made = logging.LogRecord("ocpp_board.reports.tables", level, "", 0, text, None, None)
+    made = logging.LogRecord("ocpp_board.commands.report", level, "", 0, text, None, None)
     vars(made).update(more)
     return made
 
 
 def test_the_programs_name_is_before_faults() -> None:
-    plain = PlainFormatter("ocpp-board tables", logging.ERROR)
+    plain = PlainFormatter("ocpp-board report", logging.ERROR)
     assert plain.format(record(logging.WARNING, "line 1: not read")) == "line 1: not read"
-    assert plain.format(record(logging.ERROR, "no file")) == "ocpp-board tables: no file"
-
-
-@pytest.mark.parametrize(("tool", "status"), [("log-to-script", 0), ("explain", 0), ("tables", 2)])
-def test_only_tools_that_make_pages_need_jinja2(tool: str, status: int) -> None:
-    code = """if True:
-        import sys
-        sys.modules |= {"jinja2": None, "markupsafe": None}
-        from ocpp_board import cli
-        sys.exit(cli.main(sys.argv[1:]))
-    """
-    words = [sys.executable, "-c", code, tool, "--help"]
-    ended = subprocess.run(words, env={"PYTHONPATH": ":".join(sys.path)}, capture_output=True)
-    assert ended.returncode == status
-    assert (b"apt-get install python3-jinja2" in ended.stderr) == (status == 2)
+    assert plain.format(record(logging.ERROR, "no file")) == "ocpp-board report: no file"
 
 
 def test_json_lines_have_time_level_and_line() -> None:
-    line = JsonFormatter("worker").format(
+    line = JsonFormatter("gateway").format(
         record(logging.WARNING, 'a "text"', line=7, created=1_772_323_200.25, msecs=250)
     )
     assert json.loads(line) == {
         "time": "2026-03-01T00:00:00.250Z",
         "level": "warning",
-        "program": "worker",
-        "module": "ocpp_board.reports.tables",
+        "program": "gateway",
+        "module": "ocpp_board.commands.report",
         "message": 'a "text"',
         "line": 7,
     }
@@ -74,7 +62,8 @@ def test_json_lines_have_time_level_and_line() -> None:
         (None, Status.REPORTED),
         (KeyboardInterrupt(), Status.INTERRUPTED),
         (OSError("no file"), Status.MISTAKEN),
-        (Mistaken("no names"), Status.MISTAKEN),
+        (UsageError("no names"), Status.MISTAKEN),
+        (InputError("no line"), Status.REPORTED),
         (BrokenPipeError(), Status.MISTAKEN),
     ],
 )
@@ -91,51 +80,17 @@ def test_faults_become_statuses(
     assert statuses.ended(work) == status
 
 
-def test_the_tool_is_the_first_word_or_the_name(monkeypatch: pytest.MonkeyPatch) -> None:
-    runs: list[tuple[str, list[str], str]] = []
-
-    def run(name: str, words: list[str], prog: str) -> int:
-        runs.append((name, list(words), prog))
-        return 0
-
-    monkeypatch.setattr(cli, "run", run)
-    cli.main(["tables", "--help"])
-    monkeypatch.setattr(sys, "argv", ["/usr/bin/ocpp-board-log-to-script", "x"])
-    cli.main()
-    monkeypatch.setattr(sys, "argv", ["/usr/bin/ocpp-board", "live", "y"])
-    cli.main()
-    assert runs == [
-        ("tables", ["--help"], "ocpp-board tables"),
-        ("log-to-script", ["x"], "ocpp-board-log-to-script"),
-        ("live", ["y"], "ocpp-board live"),
-    ]
-
-
 def test_the_version_is_that_of_the_program() -> None:
-    arguments_of_the_program = Path(__file__).parents[2] / "crates/ocpp_board/src/options.rt"
+    arguments_of_the_program = TOP / "crates/ocpp_board/src/options.rt"
     assert f'const VERSION: &str = "{version()}";' in arguments_of_the_program.read_text()
-    words_of_the_replay = Path(__file__).parents[2] / "crates/ocpp_replay/src/words.rt"
+    words_of_the_replay = TOP / "crates/ocpp_replay/src/words.rt"
     assert f'"ocpp_replay {version()}\\n"' in words_of_the_replay.read_text()
-
-
-@pytest.mark.parametrize("said", [None, "glibc.malloc.arena_max=2"])
-def test_replays_have_texts_at_hand_unless_the_user_says_otherwise(
-    said: str | None, tmp_path: Path, monkeypatch: pytest.MonkeyPatch
-) -> None:
-    program = tmp_path / "program"
-    program.write_text('#!/bin/sh\nprintf %s "$GLIBC_TUNABLES"\n')
-    program.chmod(0o755)
-    monkeypatch.delenv("GLIBC_TUNABLES", raising=False)
-    if said:
-        monkeypatch.setenv("GLIBC_TUNABLES", said)
-    assert answered.Replay(str(program)).output.read() == (said or TUNABLES).encode()
 
 
 def test_escapes() -> None:
     assert shown("a\x1b[0m") == "'a\\x1b[0m'"
     assert shown("x" * 70) == "'" + "x" * 60 + "..'"
     assert csv_cell("=1+1") == "'=1+1" and csv_cell("CS-01") == "CS-01"
-    assert from_copy(r"a\\n\n\q") == "a\\n\nq"
 
 
 def test_traffic_takes_turns_and_has_room() -> None:
@@ -215,7 +170,7 @@ def test_traffic_that_has_no_room(words: list[str]) -> None:
     ],
 )
 def test_why_a_line_is_none(line: bytes, cause: str, remedy: str) -> None:
-    said = bad_line(line, 2)
+    said = explain_line(line, 2)
     assert cause in said[0] and said[1].startswith(remedy)
 
 
@@ -225,7 +180,7 @@ def test_why_a_time_is_none() -> None:
         (b"1999-12-31T23:59:59Z", "is not from 2000 to 2099"),
         (b"x", "is no time"),
     ):
-        assert bad_line(b"now " + time, 2)[0].endswith(cause)
+        assert explain_line(b"now " + time, 2)[0].endswith(cause)
 
 
 @pytest.mark.parametrize(
@@ -254,38 +209,36 @@ def test_an_order_needs_no_ledgers() -> None:
     assert plan.opened is None
 
 
-def explained(reference: str, folder: Path, lines: list[str]) -> int:
+def explain_all(reference: str, lines: list[str]) -> int:
     """Explains a script by a replay in plain Python, and gives the status."""
-    (folder / "script").write_text("".join(line + "\n" for line in lines))
-    with open(folder / "script", "rb") as script:
-        return Run(reference, script).run()
+    return explain(ProcessProgram(reference), [f"{line}\n".encode() for line in lines])
 
 
 def test_a_fall_that_a_repeat_made_is_hinted_at_once(
-    reference: str, tmp_path: Path, capsys: pytest.CaptureFixture[str]
+    reference: str, capsys: pytest.CaptureFixture[str]
 ) -> None:
     lines = [line for line in repeats.script(2, True) if not line.startswith("order ")]
-    assert explained(reference, tmp_path, [*lines, lines[-1]]) == Status.DONE
+    assert explain_all(reference, [*lines, lines[-1]]) == Status.DONE
     said = capsys.readouterr().out
     assert said == (
         f"line {len(lines)}: in 6 sessions of site north, such as t1 of all, readings are listed again, and by "
         "sequence that is a fall and a second rise: their periods are wrong\n"
-        "  remedy: `--order north=moment` of log-to-script or live (in a script line `order north moment` behind the "
-        "first `station` line of the site) takes readings by moment\n"
+        "  remedy: `--order north=moment` of report, follow or log-to-script (in a script line `order north moment` "
+        "behind the first `station` line of the site) takes readings by moment\n"
         f"lines: {len(lines) + 1}, reported: 0\n"
     )
 
 
 @pytest.mark.parametrize("kind", ["sessions", "repeats"])
 def test_where_nothing_falls_nothing_is_hinted_at(
-    kind: str, reference: str, tmp_path: Path, capsys: pytest.CaptureFixture[str]
+    kind: str, reference: str, capsys: pytest.CaptureFixture[str]
 ) -> None:
-    assert explained(reference, tmp_path, list(repeats.script(2, kind == "repeats"))) == Status.DONE
+    assert explain_all(reference, list(repeats.script(2, kind == "repeats"))) == Status.DONE
     assert "remedy" not in capsys.readouterr().out
 
 
 def test_a_fall_of_the_meter_alone_is_not_hinted_at(
-    reference: str, tmp_path: Path, capsys: pytest.CaptureFixture[str]
+    reference: str, capsys: pytest.CaptureFixture[str]
 ) -> None:
     """A register that begins anew, and an end that lists the last reading once more."""
     lines = list(repeats.script(1, False))
@@ -295,7 +248,7 @@ def test_a_fall_of_the_meter_alone_is_not_hinted_at(
     payload["meterValue"] *= 2
     text = json.dumps([2, "x", "TransactionEvent", payload])
     lines[lines.index(last)] = f"msg all {text}"
-    assert explained(reference, tmp_path, lines) == Status.DONE
+    assert explain_all(reference, lines) == Status.DONE
     assert "remedy" not in capsys.readouterr().out
 
 
@@ -304,21 +257,21 @@ def test_what_is_explained_names_the_script(
 ) -> None:
     script = tmp_path / "day.script"
     script.write_text("station north A\norder north moments\nenergy A\n")
-    assert cli.run("explain", ["--program", reference, str(script)], "explain") == Status.REPORTED
+    assert cli.main(["explain", "--program", reference, str(script)]) == Status.REPORTED
     assert capsys.readouterr().out == (
         f"{script} line 2: order north moments\n  fault BadLine: 'moments' is no order of readings\n"
         f"  remedy: sequence or moment\n{script}: lines: 3, reported: 1\n"
     )
     script.write_bytes(gzip.compress(b"station north A\n"))
-    assert cli.run("explain", ["--program", reference, str(script)], "explain") == Status.REPORTED
+    assert cli.main(["explain", "--program", reference, str(script)]) == Status.REPORTED
     assert capsys.readouterr().out.startswith(f"{script} line 1: the script is compressed by gzip")
 
 
 def test_faults_of_an_order_are_explained(
-    reference: str, tmp_path: Path, capsys: pytest.CaptureFixture[str]
+    reference: str, capsys: pytest.CaptureFixture[str]
 ) -> None:
     lines = ["station north A", "order north moments", "order south moment", "energy A"]
-    assert explained(reference, tmp_path, [*lines, "order north moment"]) == Status.REPORTED
+    assert explain_all(reference, [*lines, "order north moment"]) == Status.REPORTED
     assert capsys.readouterr().out == (
         "line 2: order north moments\n  fault BadLine: 'moments' is no order of readings\n"
         "  remedy: sequence or moment\n"
@@ -331,9 +284,7 @@ def test_faults_of_an_order_are_explained(
     )
 
 
-def test_faults_of_a_list_are_explained(
-    reference: str, tmp_path: Path, capsys: pytest.CaptureFixture[str]
-) -> None:
+def test_faults_of_a_list_are_explained(reference: str, capsys: pytest.CaptureFixture[str]) -> None:
     lines = [
         "station north A",
         "mark begun",
@@ -342,7 +293,7 @@ def test_faults_of_a_list_are_explained(
         "events A",
         "mark a b",
     ]
-    assert explained(reference, tmp_path, lines) == Status.REPORTED
+    assert explain_all(reference, lines) == Status.REPORTED
     assert capsys.readouterr().out == (
         "line 3: events A T1\n  fault UnknownTransaction: station A has no event of transaction 'T1' yet\n"
         "  remedy: ask behind its messages, by the id that they have\n"
@@ -356,73 +307,115 @@ def test_faults_of_a_list_are_explained(
     )
 
 
-def test_a_line_that_writes_nothing_ends_at_its_mark(reference: str) -> None:
-    script = b"mark answered\nstation north A\nevents A T1\nstation north B\nnow x\nmark answered\n"
-    replay = ScriptReplay(reference, io.BytesIO(script))
-    assert [(line.line, text) for line, text in replay.texts()] == [
-        (b"mark answered", b"mark answered\n"),
-        (b"station north A", b""),
-        (b"events A T1", b"fault UnknownTransaction\n"),
-        (b"station north B", b"fault DeclaredLate\n"),
-        (b"now x", b""),
-        (b"mark answered", b"mark answered\n"),
-    ]
-    assert replay.ended() == (0, "")
-
-
 def test_why_a_plan_has_no_room() -> None:
     plan = Plan()
     for number in range(64):
         plan.take(number + 1, ["station", "north", f"S{number}"])
-    assert plan.over(["station", "north", "S64"])[0] == "it would be the 65th station"
-    assert "transactions is 5000" in plan.over(["limits", "5000", "1", "1", "1"])[0]
-    assert plan.over(["period", "north", "600"])[1] == "300, 900, 1800 or 3600"
-    assert plan.near("station", "s1", plan.stations) == "the nearest declared name is S1"
+    assert plan.explain_limit(["station", "north", "S64"])[0] == "it would be the 65th station"
+    assert "transactions is 5000" in plan.explain_limit(["limits", "5000", "1", "1", "1"])[0]
+    assert plan.explain_limit(["period", "north", "600"])[1] == "300, 900, 1800 or 3600"
+    assert plan.find_near("station", "s1", plan.stations) == "the nearest declared name is S1"
 
 
-def test_a_program_is_found_where_a_checkout_built_it(
-    tmp_path: Path, monkeypatch: pytest.MonkeyPatch
+def test_a_line_that_writes_nothing_ends_at_its_mark(reference: str) -> None:
+    script = b"mark answered\nstation north A\nevents A T1\nstation north B\nnow x\nmark answered"
+    lines = script.splitlines(keepends=True)
+    assert list(replay(ProcessProgram(reference), lines, {})) == [
+        Replayed(1, b"mark answered", "mark answered"),
+        Replayed(2, b"station north A", ""),
+        Replayed(3, b"events A T1", "fault UnknownTransaction"),
+        Replayed(4, b"station north B", "fault DeclaredLate"),
+        Replayed(5, b"now x", ""),
+        Replayed(6, b"mark answered", "mark answered"),
+    ]
+
+
+def test_the_command_is_the_first_word_or_the_name(
+    monkeypatch: pytest.MonkeyPatch, capsys: pytest.CaptureFixture[str]
 ) -> None:
-    monkeypatch.setattr(processes, "PACKAGES", tmp_path / "python")
-    monkeypatch.setenv("PATH", str(tmp_path / "bin"))
-    assert processes.found_program() == "ocpp_board"
-
-    def made(path: Path) -> str:
-        path.parent.mkdir(parents=True)
-        path.write_text("#!/bin/sh\n")
-        path.chmod(0o700)
-        return str(path)
-
-    made(tmp_path / "bin/ocpp_replay")
-    assert processes.found_program() == "ocpp_replay"
-    replay = made(tmp_path / "crates/ocpp_replay/out/ocpp_replay")
-    assert processes.found_program() == replay
-    board = made(tmp_path / "crates/ocpp_board/out/ocpp_board")
-    assert processes.found_program() == board
+    for called, words in (("ocpp-board", ["report", "--help"]), ("ocpp-board-report", ["--help"])):
+        monkeypatch.setattr(sys, "argv", [f"/usr/bin/{called}", *words])
+        with pytest.raises(SystemExit) as ended:
+            cli.main()
+        assert ended.value.code == 0
+        assert capsys.readouterr().out.startswith("usage: ocpp-board report ")
+    monkeypatch.setattr(sys, "argv", ["/usr/bin/ocpp-board"])
+    assert cli.main() == Status.DONE
+    assert capsys.readouterr().out.startswith("usage: ocpp-board ")
 
 
-def test_a_program_that_is_not_there_is_named_with_how_to_build_it() -> None:
-    with pytest.raises(FileNotFoundError, match="cd crates/ocpp_board && rt run .* './nowhere'"):
-        Replay("./nowhere")
+def test_each_command_has_its_words(capsys: pytest.CaptureFixture[str]) -> None:
+    with pytest.raises(SystemExit):
+        cli.main(["--help"])
+    said = capsys.readouterr().out
+    for name in cli.COMMANDS:
+        assert f"    {name}" in said
+        with pytest.raises(SystemExit) as ended:
+            cli.main([name, "--help"])
+        assert ended.value.code == 0
+        assert capsys.readouterr().out.startswith(f"usage: ocpp-board {name} ")
+    with pytest.raises(SystemExit) as ended:
+        cli.main(["tables"])
+    assert ended.value.code == Status.MISTAKEN
 
 
-def test_mistakes_name_their_file(tmp_path: Path, capfd: pytest.CaptureFixture[str]) -> None:
-    log, text = tmp_path / "log", tmp_path / "text"
-    log.write_text("{}\n{}\n")
-    text.write_text("tx x\n")
-    out = str(tmp_path / "x")
-    assert cli.run("log-to-script", [str(log)], "log-to-script") == Status.REPORTED
-    assert cli.run("tables", ["--out", out, str(text)], "tables") == Status.REPORTED
-    said = capfd.readouterr().err
-    assert f"{log} line 1: 'site' is missing (--site-field names another field)\n" in said
-    assert f"{log}: the same of 1 more line 2: 'site' is missing" in said
-    assert f"{text} line 1: not read: 'tx x'\n" in said
-    for name in ("text", "script"):
-        packed = tmp_path / f"{name}.gz"
-        packed.write_bytes(gzip.compress(b"x"))
-        some = [str(packed)] if name == "text" else ["--script", str(packed), str(text)]
-        with pytest.raises(Mistaken, match=f"{packed}: the {name} is compressed by gzip"):
-            tables.run(tables.arguments(["--out", out, *some], "tables"))
-    words = log_to_script.arguments(["--form", "citrineos-csv", "--site", "n", str(log)], "x")
-    with pytest.raises(Mistaken, match=f"{log} line 1 names no column"):
-        log_to_script.convert(words)
+def test_a_package_that_is_missing_is_named() -> None:
+    code = """if True:
+        import sys
+        sys.modules |= {"jinja2": None, "markupsafe": None}
+        from ocpp_board import cli
+        sys.exit(cli.main(["follow", "--help"]))
+    """
+    words = [sys.executable, "-c", code]
+    ended = subprocess.run(words, env={"PYTHONPATH": ":".join(sys.path)}, capture_output=True)
+    assert ended.returncode == Status.MISTAKEN
+    assert b"apt-get install python3-jinja2" in ended.stderr
+
+
+@pytest.mark.parametrize("said", [None, "glibc.malloc.arena_max=2"])
+def test_replays_have_texts_at_hand_unless_the_user_says_otherwise(
+    said: str | None, tmp_path: Path, monkeypatch: pytest.MonkeyPatch
+) -> None:
+    program = tmp_path / "program"
+    program.write_text('#!/bin/sh\nprintf %s "$GLIBC_TUNABLES"\n')
+    program.chmod(0o755)
+    monkeypatch.delenv("GLIBC_TUNABLES", raising=False)
+    if said:
+        monkeypatch.setenv("GLIBC_TUNABLES", said)
+    assert ProcessProgram(str(program)).answer(b"") == (said or TUNABLES).encode()
+
+
+@pytest.mark.parametrize(
+    ("line", "reported"),
+    [
+        (
+            'deliver A [2,"1","Heartbeet",{}]',
+            "NotImplemented UnknownAction: the action 'Heartbeet'",
+        ),
+        ('asks [2,"1","Heartbeet",{}]', "NotImplemented UnknownAction: the action 'Heartbeet'"),
+        ("deliver A", "fault BadLine: 2 words, and not 3"),
+        ("asks", "fault BadLine: 1 words, and not 2"),
+        ("deliver a/b x", "fault BadLine: the station's name 'a/b' has '/'"),
+        ("Asks x", "fault BadLine: the word 'Asks' is not in lower case"),
+    ],
+)
+def test_lines_that_deliver_and_ask_are_explained(
+    line: str, reported: str, capsys: pytest.CaptureFixture[str]
+) -> None:
+    """The answers are those of the program, which plain Python has not."""
+    answers = {
+        'deliver A [2,"1","Heartbeet",{}]': 'reply [4,"1","NotImplemented","UnknownAction",{}]',
+        'asks [2,"1","Heartbeet",{}]': 'reply [4,"1","NotImplemented","UnknownAction",{}]',
+    }
+
+    class Answers:
+        """Answers one line."""
+
+        def answer(self, script: bytes) -> bytes:
+            return answers.get(script.decode().rstrip(), "fault BadLine").encode() + b"\n"
+
+        def ask(self, texts: Sequence[str], moments: Sequence[int | None]) -> list[Wish]:
+            raise NotImplementedError
+
+    assert explain(Answers(), [line.encode()]) == Status.REPORTED
+    assert f"\n  {reported}" in capsys.readouterr().out

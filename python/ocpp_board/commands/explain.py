@@ -1,10 +1,10 @@
-"""Runs a script with `ocpp_board replay` and says what is wrong with it.
+"""Says what is wrong with a script.
 
     ocpp-board explain SCRIPT
 
 reports each fault and each refusal with the file, the number of its line, the line, the cause in words and the
-remedy. For a message that was refused it also says which member broke which check. What the program answers
-decides: the tool looks for the causes in the line afterwards.
+remedy. For a message that was refused it also says which member broke which check. The program answers the script,
+and its answers decide; the command looks for the causes in the line afterwards.
 
     day.script line 7: msg CS_01 [2,"1","Heartbeat",{}]
       fault UnknownStation: no station CS_01 is declared
@@ -13,40 +13,37 @@ decides: the tool looks for the causes in the line afterwards.
 If a board's periods are wrong because stations list readings again, it names the line that mends it, a line
 `order <site> moment`. That is a hint and no mistake; so is a report of a station near its limits.
 
-To distinguish the answers, it adds lines of its own: `mark` after lines that may write nothing, and lists of
+To tell the answers apart, it adds lines of its own: `mark` after lines that may write nothing, and lists of
 transactions after boards. They change nothing. It reports the first mistakes of a kind, and counts the others.
 """
 
+import argparse
 import difflib
 import re
 from collections.abc import Iterable, Sequence
-from dataclasses import dataclass
-from typing import IO
 
+from ocpp_board.commands.options import add_program, choose_program
 from ocpp_board.escapes import shown
-from ocpp_board.limits import (
-    DEFAULT_READINGS,
-    GREATEST_LIMITS,
-    LONGEST_LINE,
-    MOST_SITES,
-    MOST_STATIONS,
-)
-from ocpp_board.messages.message_faults import REMEDIES, message_fault
-from ocpp_board.progress import Progress
-from ocpp_board.replay.answered import Answered, Line, Messages, ScriptReplay
-from ocpp_board.replay.line_faults import NAMES, Said, bad_line, words_of
-from ocpp_board.replay.near_limits import NearLimits
-from ocpp_board.reports.repeat_hints import RepeatHints
-from ocpp_board.sources import is_gzip, opened
-from ocpp_board.statuses import Status, ended
-from ocpp_board.words import add_program, parsed, parser_of
+from ocpp_board.ledger.answers import read_line_answer
+from ocpp_board.ledger.near_limits import REMEDY as MORE_ROOM
+from ocpp_board.ledger.near_limits import USUAL, NearLimits
+from ocpp_board.ledger.program import Program, find_program
+from ocpp_board.ledger.repeat_hints import find_hint, list_falls
+from ocpp_board.ledger.replay import Key, Replayed, replay
+from ocpp_board.limits import GREATEST_LIMITS, LONGEST_LINE, MOST_SITES, MOST_STATIONS
+from ocpp_board.messages.message_faults import REMEDIES, Said, message_fault
+from ocpp_board.sources.files import is_gzip, open_input
+from ocpp_board.sources.lines import NAMES, TEXTS, explain_line, split_words
+from ocpp_board.statuses import Status
 
 ENDING = """\
-Exit status: 0 if there is nothing to report; 1 if something was
-reported; 2 if the words are wrong, the program is not there, or a file can't be read or written."""
+Exit status: 0 if there is nothing to report; 1 if something was reported; 2 if the words are wrong, the program is not
+there, or a file can't be read or written."""
 # Mistakes of a kind that are reported one by one, and characters of a line that are shown.
 MOST_REPORTED = 10
 SHOWN = 200
+# The first words of lines that need no ledger.
+NEED_NONE = ("now", "mark", "period", "order", "settle", "asks")
 
 
 class Plan:
@@ -55,21 +52,26 @@ class Plan:
     def __init__(self) -> None:
         self.sites: dict[str, int] = {}
         self.stations: dict[str, tuple[str, int]] = {}
-        self.readings, self.limit = 0, DEFAULT_READINGS
+        self.limits, self.readings = USUAL, 0
+        self.by_moment = set[str]()
+        self.near = NearLimits()
         self.opened: tuple[int, str] | None = None
 
     def take(self, number: int, words: list[str]) -> None:
         """A line that was no fault."""
         if words[0] == "limits":
-            self.limit = int(words[3])
+            self.limits = tuple(map(int, words[1:]))
         elif words[0] == "station":
             self.sites.setdefault(words[1], number)
             self.stations[words[2]] = words[1], number
-            self.readings += self.limit
-        elif words[0] not in ("now", "mark", "period", "order", "settle") and self.opened is None:
+            self.near.limits[words[2]] = self.limits
+            self.readings += self.limits[2]
+        elif words[0] == "order":
+            (self.by_moment.add if words[2] == "moment" else self.by_moment.discard)(words[1])
+        elif words[0] not in NEED_NONE and self.opened is None:
             self.opened = number, " ".join(words[:2])
 
-    def over(self, words: list[str]) -> Said:
+    def explain_limit(self, words: list[str]) -> Said:
         """Why a declaration is past the plan's limits."""
         if words[0] == "limits":
             limits = zip(GREATEST_LIMITS.items(), words[1:])
@@ -92,68 +94,81 @@ class Plan:
                 "at most 16 sites; run the others in a script of their own",
             )
         return (
-            f"with it the stations' limits of readings would add up to {self.readings + self.limit:,}, more than "
+            f"with it the stations' limits of readings would add up to {self.readings + self.limits[2]:,}, more than "
             "1,048,576",
             "a `limits` line with fewer readings before the stations",
         )
 
-    def near(self, what: str, name: str, names: Iterable[str]) -> str:
+    def find_near(self, what: str, name: str, names: Iterable[str]) -> str:
         """The remedy for a name that is not declared."""
         known = {each.lower(): each for each in names}
         if not known:
-            return f"declare it before line {self.opened_at()}; the script declares no {what}"
+            return f"declare it before line {self.find_opening()}; the script declares no {what}"
         near = difflib.get_close_matches(name.lower(), known, 1, 0.5)
         if near:
             return f"the nearest declared name is {known[near[0]]}"
-        return f"declare it before line {self.opened_at()}; declared are {', '.join(list(known.values())[:5])}"
+        return f"declare it before line {self.find_opening()}; declared are {', '.join(list(known.values())[:5])}"
 
-    def opened_at(self) -> int:
+    def find_opening(self) -> int:
         """The line that needed the ledgers first."""
         return self.opened[0] if self.opened else 1
 
 
-class Run:
-    """A replay that runs over a script, and what is wrong with it."""
+class Explainer:
+    """Says what is wrong with the lines of a script."""
 
-    def __init__(self, program: str, script: IO[bytes], name: str = "") -> None:
+    def __init__(self, name: str = "") -> None:
         """`name`: that of the script, where it is a file."""
         self.name, self.where = (f"{name}: ", f"{name} line") if name else ("", "line")
-        self.replay, self.plan = ScriptReplay(program, script, asks=True), Plan()
-        self.messages = Messages()
-        self.near = NearLimits(self.messages.limits, self.report_limit)
-        self.repeats = RepeatHints(self.report_hint)
-        self.progress = Progress(script)
+        self.plan = Plan()
+        self.hinted = set[str]()
         self.counts: dict[str, int] = {}
 
-    def explain(self, line: Line, text: str) -> None:
-        """Reports what is wrong with a line, if something is."""
-        words = words_of(line.line.decode("utf-8", "replace"))
-        if text.startswith("fault "):
-            name = text.removeprefix("fault ")
-            if name in ("UnknownStation", "UnknownSite", "UnknownTransaction"):
-                self.plan.take(line.number, words)
-            cause, remedy = self.line_fault(name, line, words)
-        elif text.startswith("refused "):
+    def take(self, line: Replayed) -> None:
+        """Takes the next line, and reports what is wrong with it, if something is."""
+        words = split_words(line.line.decode("utf-8", "replace"))
+        name = line.answer.removeprefix("fault ")
+        if name == line.answer or name in ("UnknownStation", "UnknownSite", "UnknownTransaction"):
             self.plan.take(line.number, words)
-            cause, remedy = REMEDIES.get(
-                text.removeprefix("refused "), ("the command was refused", "see docs/rules.md")
-            )
-        elif text.startswith("[4,"):
-            self.plan.take(line.number, words)
-            named = re.search(r',"([A-Za-z]+)",\{\}\]$', text)
-            cause, remedy = message_fault(words[2], named[1] if named else "")
-        else:
-            self.plan.take(line.number, words)
-            return
-        self.report(line, text, cause, remedy)
+        if name != line.answer:
+            self.report(line, line.answer, *self.explain_fault(name, line, words))
+        elif words[0] in TEXTS:
+            self.take_text(line, words)
+        elif line.answer.startswith("refused "):
+            unknown = "the command was refused", "see docs/rules.md"
+            said = REMEDIES.get(line.answer.removeprefix("refused "), unknown)
+            self.report(line, line.answer, *said)
+        elif line.board and line.lists:
+            self.take_falls(line, line.board.site)
 
-    def line_fault(self, name: str, line: Line, words: list[str]) -> Said:
+    def take_text(self, line: Replayed, words: list[str]) -> None:
+        """Takes a line with a station's text."""
+        reply = line.answer
+        if words[0] == "deliver":
+            reply = read_line_answer(line.answer).reply or ""
+        elif words[0] == "asks":
+            reply = line.answer.removeprefix("reply ")
+        if reply.startswith("[4,"):
+            named = re.search(r',"([A-Za-z]+)",\{\}\]$', reply)
+            said = message_fault(words[-1], named[1] if named else "")
+            self.report(line, reply, *said)
+        elif reply.startswith("[3,") and words[0] != "asks":
+            for near in self.plan.near.take(words[1], words[2]):
+                self.hint(line, near, MORE_ROOM)
+
+    def take_falls(self, line: Replayed, site: str) -> None:
+        """Takes a board by sequence with the lists of its transactions that fell."""
+        if site not in self.hinted and (hint := find_hint(site, line.lists)):
+            self.hinted.add(site)
+            self.hint(line, hint.said, hint.remedy)
+
+    def explain_fault(self, name: str, line: Replayed, words: list[str]) -> Said:
         """Why a line is a fault of this name."""
         plan = self.plan
         if name == "LineTooLong":
             return f"the line has more than {LONGEST_LINE:,} bytes", "a shorter line"
         if name == "BadLine":
-            return bad_line(line.line, line.number)
+            return explain_line(line.line, line.number)
         if name == "DeclaredLate" and plan.opened:
             return (
                 f"line {plan.opened[0]} ({shown(plan.opened[1])}) needed the ledgers, and what they keep is fixed "
@@ -161,7 +176,7 @@ class Run:
                 f"put it before line {plan.opened[0]}",
             )
         if name == "PlanLimit":
-            return plan.over(words)
+            return plan.explain_limit(words)
         if name == "StationTwice":
             site, at = plan.stations[words[2]]
             return (
@@ -169,7 +184,7 @@ class Run:
                 "leave one of them out",
             )
         if name == "UnknownStation":
-            return self.unknown_station(words)
+            return self.explain_station(words)
         if name == "UnknownTransaction":
             return (
                 f"station {words[1]} has no event of transaction {shown(words[2])} yet",
@@ -181,78 +196,68 @@ class Run:
                 "put it behind a `station` line of the site",
             )
         if name == "UnknownSite":
-            return f"no site {words[1]} is declared", plan.near("site", words[1], plan.sites)
+            return f"no site {words[1]} is declared", plan.find_near("site", words[1], plan.sites)
         return "it was refused", "see docs/formats.md"
 
-    def unknown_station(self, words: list[str]) -> Said:
+    def explain_station(self, words: list[str]) -> Said:
         """Why no station of this name is declared."""
         cause = f"no station {words[1]} is declared"
-        if words[0] == "msg" and words[2] and not words[2].lstrip().startswith(("[", "{")):
+        if words[0] in TEXTS and words[2] and not words[2].lstrip().startswith(("[", "{")):
             return (
                 f"{cause}, and no message begins with {shown(words[2].split(' ')[0])}",
                 f"a name has no blank; {NAMES}",
             )
-        return cause, self.plan.near("station", words[1], self.plan.stations)
+        return cause, self.plan.find_near("station", words[1], self.plan.stations)
 
-    def report(self, line: Line, text: str, cause: str, remedy: str) -> None:
+    def report(self, line: Replayed, text: str, cause: str, remedy: str) -> None:
         """Reports a mistake; of a kind the first ones."""
-        kind = (
-            re.sub(r'^\[4,"(?:[^"\\]|\\.)*",', "", text)
-            .removesuffix(",{}]")
-            .replace('"', "")
-            .replace(",", " ")
-        )
+        kind = re.sub(r'^\[4,"(?:[^"\\]|\\.)*",', "", text).removesuffix(",{}]")
+        kind = kind.replace('"', "").replace(",", " ")
         self.counts[kind] = self.counts.get(kind, 0) + 1
         if self.counts[kind] <= MOST_REPORTED:
-            self.progress.end()
             print(
                 f"{self.where} {line.number}: {shown(line.line.decode('utf-8', 'replace'), SHOWN)[1:-1]}\n"
                 f"  {kind}: {cause}\n  remedy: {remedy}"
             )
 
-    def report_limit(self, answered: Answered, said: str, remedy: str) -> None:
-        """Reports that a station comes near to its limits, which is no mistake yet."""
-        self.progress.end()
-        print(f"{self.where} {answered.number}: {said}\n  remedy: {remedy}")
-
-    def report_hint(self, line: Line, said: str, remedy: str) -> None:
-        """Reports what a line's board shows, which is no mistake of the script."""
-        self.progress.end()
+    def hint(self, line: Replayed, said: str, remedy: str) -> None:
+        """Reports what is no mistake of the script."""
         print(f"{self.where} {line.number}: {said}\n  remedy: {remedy}")
 
-    def run(self) -> int:
-        """Reports all that is wrong, and returns the exit status. Raises OSError."""
-        for line, text in self.replay.answers:
-            self.progress.report(line.number, len(line.line) + 1)
-            if message := self.messages.take(line, text):
-                self.near.take(message)
-                if message.is_accepted and self.plan.opened:
-                    continue
-            if line.line.startswith(b"board "):
-                self.repeats.look(line, text, self.replay.ask)
-            self.explain(line, text.partition(b"\n")[0].decode("utf-8", "replace"))
-        self.progress.end()
-        status, said = self.replay.ended()
+    def end(self, lines: int) -> int:
+        """Reports how many lines there were, and gives the exit status."""
         for kind, count in self.counts.items():
             if count > MOST_REPORTED:
                 print(f"{self.name}and {count - MOST_REPORTED:,} more lines: {kind}")
-        if status:
-            print(f"{self.name}the replay ended with status {status}: {said}")
-        print(f"{self.name}lines: {self.replay.lines:,}, reported: {sum(self.counts.values()):,}")
-        return Status.REPORTED if self.counts or status else Status.DONE
+        print(f"{self.name}lines: {lines:,}, reported: {sum(self.counts.values()):,}")
+        return Status.REPORTED if self.counts else Status.DONE
 
 
-@dataclass(frozen=True)
-class Options:
-    """What the words ask for: a script, or - for standard input, and the program."""
+def find_falls(replayed: Iterable[Replayed]) -> dict[int, list[Key]]:
+    """By the numbers of lines `board` of sites by sequence, the transactions with a register that fell."""
+    plan, found = Plan(), dict[int, list[Key]]()
+    for line in replayed:
+        if line.line.startswith(b"order ") and not line.answer:
+            plan.take(line.number, split_words(line.line.decode("ascii")))
+        if line.board and line.board.site not in plan.by_moment:
+            if falls := list_falls(line.board):
+                found[line.number] = falls
+    return found
 
-    script: str
-    program: str
+
+def explain(program: Program, lines: Sequence[bytes], name: str = "") -> int:
+    """Reports what is wrong with a script, and gives the exit status. Raises ProgramError."""
+    explainer = Explainer(name)
+    replayed = list(replay(program, lines, {}))
+    if asks := find_falls(replayed):
+        replayed = list(replay(program, lines, asks))
+    for line in replayed:
+        explainer.take(line)
+    return explainer.end(len(lines))
 
 
-def arguments(argv: Sequence[str], prog: str) -> Options:
-    """What the words ask for. Wrong ones end the program with status 2."""
-    parser = parser_of(prog, __doc__, ENDING)
+def add_words(parser: argparse.ArgumentParser) -> None:
+    """The words of the command."""
     parser.add_argument(
         "script",
         nargs="?",
@@ -261,22 +266,16 @@ def arguments(argv: Sequence[str], prog: str) -> Options:
         help="the script, standard input if absent or -",
     )
     add_program(parser)
-    words = parsed(parser, argv)
-    return Options(words.script, words.program)
 
 
-def explain(options: Options) -> int:
-    """Reports what is wrong with a script, and gives the exit status."""
-    name = "" if options.script == "-" else options.script
-    with opened(options.script) as script:
+def run(words: argparse.Namespace) -> int:
+    """Reports what is wrong with a script."""
+    choose_program(words.program)
+    name = "" if words.script == "-" else words.script
+    with open_input(words.script) as script:
         if is_gzip(script):
             print(f"{name} line 1: the script is compressed by gzip".lstrip())
             print("  remedy: gunzip -c SCRIPT | ocpp-board explain")
             return Status.REPORTED
-        return Run(options.program, script, name).run()
-
-
-def main(argv: Sequence[str], prog: str) -> int:
-    """Runs the tool with these words; gives its exit status."""
-    options = arguments(argv, prog)
-    return ended(lambda: explain(options))
+        lines = script.readlines()
+    return explain(find_program(), lines, name)

@@ -30,51 +30,58 @@ import logging
 import shutil
 import tempfile
 import zlib
-from collections.abc import Iterator, Sequence
+from collections.abc import Iterator
 from dataclasses import dataclass
 from io import BufferedWriter
 from pathlib import Path
 from typing import IO
 
+from ocpp_board.commands.mistakes import Mistakes
+from ocpp_board.errors import UsageError
 from ocpp_board.limits import (
+    DEFAULT_READINGS,
     FIRST_MOMENT,
-    LONGEST_LOG_LINE,
     LONGEST_SCRIPT,
     MOMENT,
     MOST_READINGS,
     MOST_SITES,
     MOST_STATIONS,
 )
-from ocpp_board.logs import logforms
-from ocpp_board.logs.log_reader import LogReader, Taken
-from ocpp_board.logs.logforms import Shape, shape_of
-from ocpp_board.logs.mending import COMMENT as MENDED
-from ocpp_board.logs.script_plan import (
-    PlanOptions,
-    ScriptPlan,
-    add_plan,
-    add_utc,
-    plan_options,
-)
 from ocpp_board.messages.texts import Refused
 from ocpp_board.processes import end_without_reader
 from ocpp_board.progress import Progress
-from ocpp_board.replay.answered import RECEIVED
-from ocpp_board.replay.line_faults import BYTE_ORDER_MARK, name_fault
-from ocpp_board.replay.refusals import MOST_UNTAKEN, Refusal, comment_of, commented
-from ocpp_board.sources import opened, unpacked
-from ocpp_board.statuses import Mistaken, Status, ended
-from ocpp_board.words import options_of, parsed, parser_of
+from ocpp_board.records import Untaken
+from ocpp_board.sources import forms
+from ocpp_board.sources.files import open_input, read_lines, unpack
+from ocpp_board.sources.forms import Shape, choose_shape
+from ocpp_board.sources.log import LogReader, Read
+from ocpp_board.sources.mend import COMMENT as MENDED, write_comment
+from ocpp_board.sources.script import RECEIVED, UNTAKEN, read_comment, write_moment, write_untaken
+from ocpp_board.sources.stations import (
+    DEFAULTS,
+    PlanOptions,
+    StationPlan,
+    add_limits,
+    add_rules,
+    add_sites,
+    add_utc,
+    choose_plan,
+)
+from ocpp_board.statuses import Status
+from ocpp_board.words import pick_options
 
 log = logging.getLogger(__name__)
 
-ENDING = """\
+ENDING = f"""\
+{forms.FORMS}
 A station keeps 1,024 transactions, 16,384 events and 16,384 readings, unless --limits says otherwise. Memory
 doesn't grow with the log; without --stations the script waits in a temporary file (TMPDIR) until all stations are
 known. Exit status: 0 when every line was taken or left out; 1 when some were not; 2 when the words are wrong or a file
 can't be read or written."""
 # Bytes of the script that are kept in memory before they go to a file.
 KEPT_IN_MEMORY = 1_048_576
+# Lines of a kind that can't be taken, which a script keeps; the others are counted.
+MOST_UNTAKEN = 10_000
 # Stations of a log that is split.
 MOST_SPLIT = 16_384
 
@@ -83,49 +90,85 @@ class Full(Exception):
     """The script has no room for this line."""
 
 
-class Mistakes:
-    """What can't be taken. It reports the first of each kind at once, and at the end how many more there were."""
+class ScriptPlan(StationPlan):
+    """The stations of a script, or of several, and what it declares of their sites."""
 
-    def __init__(self, progress: Progress, name: str = "") -> None:
-        """`name`: that of the log."""
-        self.progress, self.where = progress, f"{name} line" if name else "line"
-        # By kind: how many more there were, and the number of the last line of these.
-        self.more: dict[str, tuple[int, int]] = {}
+    def __init__(self, asked: PlanOptions, most_stations: int = MOST_STATIONS) -> None:
+        """Raises OSError, and UsageError where a file of the options has not two names a line or too many stations."""
+        self.most_stations = most_stations
+        self.most_sites = MOST_SITES if most_stations == MOST_STATIONS else most_stations
+        self.readings = asked.limits[2] if asked.limits else DEFAULT_READINGS
+        super().__init__(asked)
 
-    def report(self, number: int, why: Refused) -> None:
-        """The line of this number can't be taken."""
-        if why.kind in self.more:
-            self.more[why.kind] = (self.more[why.kind][0] + 1, number)
-            return
-        self.more[why.kind] = (0, number)
-        self.progress.end()
-        log.warning("%s %d: %s", self.where, number, why, extra={"line": number})
+    def check_room(self, site: str, station: str) -> None:
+        """Raises Refused where a script has no room for one station more."""
+        if len(self.site_of) == self.most_stations:
+            raise Refused(f"one station more than {self.most_stations}", station)
+        if site not in self.site_of.values() and len(self.list_sites()) == self.most_sites:
+            raise Refused(f"one site more than {self.most_sites}", site)
+        readings = (len(self.site_of) + 1) * self.readings
+        if self.most_stations == MOST_STATIONS and readings > MOST_READINGS:
+            raise Refused(
+                f"the stations' limits of readings would add up to more than {MOST_READINGS:,}",
+                station,
+            )
 
-    def count(self, why: Refused) -> int:
-        """How many there were of this kind."""
-        return self.more[why.kind][0] + 1
+    def declare_site(self, site: str) -> Iterator[bytes]:
+        """What is declared of a site: its settlement period, where one is asked for, the order of its readings, and the
+        rule by which their differences count in its periods."""
+        asked = self.asked.find_words(site)
+        if asked.period:
+            yield f"period {site} {asked.period}\n".encode()
+        yield f"order {site} {asked.order or DEFAULTS['order']}\n".encode()
+        yield f"settle {site} {asked.settle or DEFAULTS['settle']}\n".encode()
 
-    def end(self) -> None:
-        """Reports of each kind how many more there were."""
-        for kind, (count, last) in self.more.items():
-            if count:
-                lines = "1 more line" if count == 1 else f"{count:,} more lines, the last"
-                where = self.where.removesuffix("line").rstrip()
-                said = f"{where}: the same of {lines}" if where else f"the same of {lines}"
-                log.warning("%s %d: %s", said, last, kind, extra={"line": last})
+    def describe_defaults(self) -> str:
+        """That sites are declared by the defaults of the tools, where some are; else nothing."""
+        asked = {"order": self.asked.order, "settle": self.asked.settle}
+        sites = self.list_sites()
+        kinds = [
+            kind for kind in DEFAULTS if any(not {site, ""} & {*asked[kind]} for site in sites)
+        ]
+        lines = " and ".join(f"`{kind} .. {DEFAULTS[kind]}`" for kind in kinds)
+        options = " and ".join(f"--{kind}" for kind in kinds)
+        return (
+            f"the script declares {lines} for its sites; {options} would say otherwise"
+            if kinds
+            else ""
+        )
+
+    def declare(self, site_of: dict[str, str] | None = None) -> bytes:
+        """The lines in front of the first message, of these stations or of all."""
+        stations = self.site_of if site_of is None else site_of
+        lines = [f"station {site} {station}\n".encode() for station, site in stations.items()]
+        for site in dict.fromkeys(stations.values()):
+            lines += self.declare_site(site)
+        limits = self.asked.limits
+        front = f"limits {' '.join(map(str, limits))}\n".encode() if limits else b""
+        return b"".join([front, *lines])
+
+    def ask_boards(self, site_of: dict[str, str] | None = None) -> bytes:
+        """The lines that ask for the board of each site, where they are asked for."""
+        sites = dict.fromkeys((self.site_of if site_of is None else site_of).values())
+        return b"".join(f"board {site}\n".encode() for site in sites if self.asked.boards)
 
 
-def lines(file: IO[bytes]) -> Iterator[tuple[int, bytes | None]]:
-    """Each line of the log with its number; None for one that is longer than LONGEST_LOG_LINE."""
-    number = 0
-    while line := file.readline(LONGEST_LOG_LINE + 1):
-        number += 1
-        if len(line) <= LONGEST_LOG_LINE or line.endswith(b"\n"):
-            yield number, line.removeprefix(BYTE_ORDER_MARK) if number == 1 else line
-            continue
-        while line and not line.endswith(b"\n"):
-            line = file.readline(KEPT_IN_MEMORY)
-        yield number, None
+def write_read(read: Read, has_received: bool) -> bytes:
+    """The lines of a script that a message becomes: in front of it a comment with what came, if it was mended, and one
+    with its receipt where that is wanted."""
+    message = read.message
+    if message is None:
+        return b""
+    moment = write_moment(message.received)
+    came = (
+        write_comment(message.mends.split(","), message.station, message.came)
+        if message.mends
+        else b""
+    )
+    received = f"# received {moment}\n".encode() if moment and has_received else b""
+    # The replay drops one carriage return before a line feed: the message's own stays.
+    more = "\r" if message.text.endswith("\r") else ""
+    return came + received + f"msg {message.station} {message.text}{more}\n".encode()
 
 
 class Script:
@@ -141,40 +184,39 @@ class Script:
         self.size, self.around, self.stations = 0, 0, -1
         self.now = FIRST_MOMENT.strftime(MOMENT)
         if self.is_live:
-            self.out.write(plan.declarations())
+            self.out.write(plan.declare())
             self.out.flush()
 
-    def room(self) -> int:
+    def find_room(self) -> int:
         """The bytes that are left for messages."""
         if self.stations != len(self.plan.site_of):
             self.stations = len(self.plan.site_of)
-            self.around = len(self.plan.declarations()) + len(self.plan.boards())
+            self.around = len(self.plan.declare()) + len(self.plan.ask_boards())
         return LONGEST_SCRIPT - self.size - self.around
 
-    def put(self, taken: Taken) -> None:
-        """Adds a message, after its moment where that is given and new. Raises Full where there is no room."""
-        lines = taken.lines
-        if taken.moment not in (None, self.now):
-            lines = f"now {taken.moment}\n".encode() + lines
-        if len(lines) > self.room():
+    def put(self, lines: bytes, moment: str = "") -> None:
+        """Adds lines, after their moment where that is given and new. Raises Full where there is no room."""
+        if moment and moment != self.now:
+            lines = f"now {moment}\n".encode() + lines
+        if len(lines) > self.find_room():
             raise Full
         self.size += len(lines)
-        self.now = taken.moment or self.now
+        self.now = moment or self.now
         self.body.write(lines)
         if self.is_live:
             self.out.flush()
 
-    def keep(self, refusal: Refusal) -> None:
+    def keep(self, untaken: Untaken) -> None:
         """Keeps what is not taken, for those who show it. Raises Full where there is no room."""
-        self.put(Taken("refused", refusal.station, lines=comment_of(refusal)))
+        self.put(write_untaken(untaken))
 
     def write(self) -> None:
         """What was not written yet."""
         if not self.is_live:
-            self.out.write(self.plan.declarations())
+            self.out.write(self.plan.declare())
             self.body.seek(0)
             shutil.copyfileobj(self.body, self.out)
-        self.out.write(self.plan.boards())
+        self.out.write(self.plan.ask_boards())
         self.out.flush()
 
 
@@ -182,31 +224,30 @@ class Scripts(Script):
     """Scripts of a folder, for as many stations as the log has."""
 
     def __init__(self, folder: Path, plan: ScriptPlan) -> None:
-        """Raises OSError, and Mistaken where the folder has files."""
+        """Raises OSError, and UsageError where the folder has files."""
         super().__init__(plan, tempfile.TemporaryFile())
         self.folder = folder
         self.folder.mkdir(parents=True, exist_ok=True)
         if any(self.folder.iterdir()):
-            raise Mistaken(f"{self.folder} is not empty")
+            raise UsageError(f"{self.folder} is not empty")
 
-    def put(self, taken: Taken) -> None:
-        """Adds a message, after its moment where that is given."""
-        now = f"now {taken.moment}\n".encode() if taken.moment else b""
-        self.body.write(now + taken.lines)
+    def put(self, lines: bytes, moment: str = "") -> None:
+        """Adds lines, after their moment where that is given."""
+        self.body.write((f"now {moment}\n".encode() if moment else b"") + lines)
 
     def write(self) -> None:
-        """Writes each script. Raises OSError, and Mistaken where one is longer than a script may be."""
-        shares = shares_of(self.plan.site_of, MOST_READINGS // self.plan.readings)
+        """Writes each script. Raises OSError, and UsageError where one is longer than a script may be."""
+        shares = share_stations(self.plan.site_of, MOST_READINGS // self.plan.readings)
         paths = [self.folder / f"{number}.script" for number in range(1, len(shares) + 1)]
         with contextlib.ExitStack() as files:
             outs = [files.enter_context(open(path, "wb")) for path in paths]
             for out, share in zip(outs, shares):
-                out.write(self.plan.declarations(share))
+                out.write(self.plan.declare(share))
             self.hand_out({station: out for out, share in zip(outs, shares) for station in share})
             for path, out, share in zip(paths, outs, shares):
-                out.write(self.plan.boards(share))
+                out.write(self.plan.ask_boards(share))
                 if out.tell() > LONGEST_SCRIPT:
-                    raise Mistaken(f"{path} has more than {LONGEST_SCRIPT:,} bytes: part the log")
+                    raise UsageError(f"{path} has more than {LONGEST_SCRIPT:,} bytes: part the log")
                 sites = ", ".join(dict.fromkeys(share.values()))
                 log.info("%s: %d stations of %s", path, len(share), sites)
 
@@ -223,8 +264,9 @@ class Scripts(Script):
                 received = line
             elif line.startswith(MENDED):
                 came = line
-            elif refusal := commented(line):
-                out_of.get(refusal.station, first).write(line)
+            elif line.startswith(UNTAKEN):
+                station = read_comment(UNTAKEN, line, ["station"]).get("station", "")
+                out_of.get(station, first).write(line)
             else:
                 out = out_of[line.split(b" ", 2)[1].decode()]
                 out.write((now if now != nows.get(out) else b"") + came + received + line)
@@ -232,7 +274,7 @@ class Scripts(Script):
                 now = received = came = b""
 
 
-def shares_of(site_of: dict[str, str], room: int) -> list[dict[str, str]]:
+def share_stations(site_of: dict[str, str], room: int) -> list[dict[str, str]]:
     """The stations of each script with their sites. `room`: how many stations a script's readings have room for.
 
     A site is parted only where it has more stations than one script.
@@ -278,10 +320,14 @@ class Conversion:
 
     def __init__(self, options: Options, out: IO[bytes]) -> None:
         self.log, split = options.log, options.split
+        self.is_received = options.is_received
         self.plan = ScriptPlan(options.plan, MOST_SPLIT if split else MOST_STATIONS)
         if self.plan.is_fixed:
             self.plan.check_sites()
-        self.reader = LogReader(options.shape, self.plan, options.is_received, options.is_utc)
+        name = "" if self.log == "-" else self.log
+        self.reader = LogReader(
+            options.shape, self.plan, options.is_utc, name, has_times=options.is_received
+        )
         self.counts = self.reader.counts
         self.script = Scripts(split, self.plan) if split else Script(self.plan, out)
 
@@ -290,7 +336,7 @@ class Conversion:
         mistakes = Mistakes(progress, "" if self.log == "-" else self.log)
         number = self.take_all(file, progress, mistakes)
         if not self.reader.has_form():
-            form = self.reader.form_name()
+            form = self.reader.shape.name
             why = Refused(f"neither this line nor one before it is of the form {form}")
             self.refuse(mistakes, number, why)
         progress.end()
@@ -300,11 +346,11 @@ class Conversion:
         """Takes lines up to the end, or to where no more can be; gives the number of the last one."""
         number = 0
         try:
-            for number, line in lines(file):
+            for number, line in read_lines(file):
                 progress.report(number, len(line or b""))
                 self.take(number, line, mistakes)
-        except Mistaken as fault:
-            raise Mistaken(f"{self.log} {fault}") from None
+        except UsageError as fault:
+            raise UsageError(f"{self.log} {fault}") from None
         except Full:
             kind = f"no room in a script of {LONGEST_SCRIPT:,} bytes"
             left_out = Refused(f"{kind}; this line and all after it are left out")
@@ -317,16 +363,17 @@ class Conversion:
     def take(self, number: int, line: bytes | None, mistakes: Mistakes) -> None:
         """Takes the line of this number into the script. Raises Full."""
         try:
-            taken = self.reader.take(line)
+            read = self.reader.read(line, number)
         except Refused as why:
             mistakes.report(number, why)
             if mistakes.count(why) <= MOST_UNTAKEN:
-                self.script.keep(self.reader.refusal(why))
+                self.script.keep(self.reader.make_untaken(why, line, number))
             return
-        if taken.note:
-            mistakes.report(number, taken.note)
-        if taken.lines:
-            self.script.put(taken)
+        if read.note:
+            mistakes.report(number, read.note)
+        if read.message:
+            moment = write_moment(read.message.received) if read.has_moment else ""
+            self.script.put(write_read(read, self.is_received), moment)
 
     def refuse(self, mistakes: Mistakes, number: int, why: Refused) -> None:
         """Counts what can't be taken, and reports it."""
@@ -335,34 +382,22 @@ class Conversion:
 
     def report(self) -> None:
         """What became of the lines."""
-        log.info("sites: %d, stations: %d", len(self.plan.sites()), len(self.plan.site_of))
-        if said := self.plan.defaults_said():
+        log.info("sites: %d, stations: %d", len(self.plan.list_sites()), len(self.plan.site_of))
+        if said := self.plan.describe_defaults():
             log.info("%s", said)
-        self.reader.report()
+        log.info("%s", self.reader.describe())
+        if said := self.reader.mender.describe():
+            log.info("messages mended: %s", said)
 
 
-def add_sites(parser: argparse.ArgumentParser) -> None:
-    """The options that name sites and stations."""
-    parser.add_argument(
-        "--site",
-        dest="one_site",
-        metavar="NAME",
-        help="the site of all stations, whatever the log says; with --site-map, of those that the "
-        "map has not",
-    )
-    parser.add_argument(
-        "--site-map", metavar="FILE", help="the sites: a station and its site a line"
-    )
+def add_script(parser: argparse.ArgumentParser) -> None:
+    """The options that say what is written."""
     parser.add_argument(
         "--stations",
         metavar="FILE",
         help="the stations: a site and a station a line. Each line of the script goes out as it "
         "comes",
     )
-
-
-def add_script(parser: argparse.ArgumentParser) -> None:
-    """The options that say what is written."""
     parser.add_argument(
         "--no-boards",
         dest="boards",
@@ -384,44 +419,44 @@ def add_script(parser: argparse.ArgumentParser) -> None:
     )
 
 
-def arguments(argv: Sequence[str], prog: str) -> Options:
-    """What the words ask for. Wrong ones end the program with status 2."""
-    parser = parser_of(prog, f"{__doc__}\n{logforms.FORMS}", ENDING)
+def add_words(parser: argparse.ArgumentParser) -> None:
+    """The words of the command."""
     parser.add_argument(
         "log", nargs="?", default="-", help="the log, standard input if absent or -"
     )
-    logforms.add_form(parser)
-    logforms.add_options(parser, logforms.FIELDS)
+    forms.add_form(parser)
+    forms.add_fields(parser, forms.FIELDS)
     add_sites(parser)
     add_utc(parser)
-    add_plan(parser)
+    add_limits(parser)
+    add_rules(parser)
     add_script(parser)
-    words = parsed(parser, argv)
-    shape, plan = shape_of(words), plan_options(parser, words)
-    if words.one_site and (said := name_fault("name", words.one_site)):
-        parser.error(f"--site is no name: {said[0]}; {said[1]}")
+
+
+def read_options(words: argparse.Namespace) -> Options:
+    """What the words ask for. Wrong ones end the program with status 2."""
+    shape, plan = choose_shape(words), choose_plan(words.parser, words)
     if words.split and words.stations:
-        parser.error("--split has the stations of the log, and not those of --stations")
+        words.parser.error("--split has the stations of the log, and not those of --stations")
     if not shape.has_site and not plan.has_sites:
         form = shape.name if shape.regex else f"--form {shape.form}"
-        parser.error(f"{form} has no sites: --site, --site-map or --stations names them")
-    return options_of(Options, words, shape=shape, plan=plan)
+        words.parser.error(f"{form} has no sites: --site, --site-map or --stations names them")
+    return pick_options(Options, words, shape=shape, plan=plan)
 
 
 def convert(options: Options) -> int:
     """Writes the script of a log to standard output, and gives the exit status."""
     if options.plan.stations:
         end_without_reader(1)
-    with open(1, "wb", closefd=False) as out, opened(options.log) as file:
+    with open(1, "wb", closefd=False) as out, open_input(options.log) as file:
         conversion = Conversion(options, out)
-        conversion.run(unpacked(file), Progress(file))
+        conversion.run(unpack(file), Progress(file))
         conversion.plan.check_sites()
         conversion.script.write()
     conversion.report()
     return Status.REPORTED if conversion.counts["refused"] else Status.DONE
 
 
-def main(argv: Sequence[str], prog: str) -> int:
-    """Runs the tool with these words; gives its exit status."""
-    options = arguments(argv, prog)
-    return ended(lambda: convert(options))
+def run(words: argparse.Namespace) -> int:
+    """Does what the words ask for."""
+    return convert(read_options(words))

@@ -2,13 +2,11 @@
 
     texts            OCPP-J as text: JSON as it is written, members, what is surely no event
     times            the one reader of times, which takes what the program takes
-    meter_values     readings: values in whole milliwatt-hours, measurands, readings outside transactions
+    meter_values     readings: values in whole milliwatt-hours, measurands
     signed_values    signed values (OCMF), compared with the plain values beside them
     bills            what a bill needs of a session beside its energy: ids as sent, tokens, signed values
-    transactions     what the messages of transactions have: reasons, tokens, measurands that don't count
+    transactions     events of transactions: readings, reasons, tokens, measurands that don't count
     message_faults   which member of a refused message broke which check, and the remedy
 
-The program's answers decide what was accepted, and its lists what counts; nothing here computes a board. logs/ and
-replay/ find stations and faults with it, reports/ what messages have beside lists, fleet/ transactions and moments of
-lines.
+The program's answers decide what was accepted, and its lists what counts; nothing here computes a board.
 """

@@ -10,7 +10,6 @@ from ocpp_board.escapes import shown
 from ocpp_board.limits import GREATEST_SEQ_NO, TRANSACTION
 from ocpp_board.messages.meter_values import EXPORT, IMPORT
 from ocpp_board.messages.times import NO_OFFSET, OUT_OF_RANGE, fault_of
-from ocpp_board.replay.line_faults import Said
 
 ACTIONS = ["BootNotification", "Heartbeat", "StatusNotification", "MeterValues", "TransactionEvent"]
 # Actions of OCPP 2.0.1 that a station may call too; the ledger keeps nothing of them.
@@ -31,8 +30,14 @@ UNSET_CLOCK = (
     "set the station's clock; what it sent meanwhile is lost unless it sends it again with a time"
 )
 # What takes messages of a log as they are meant.
-MEND_VALUE = "take the log again with `--mend SITE=text-value` of log-to-script or live, which takes it as a number"
-MEND_TIME = "take the log again with `--mend SITE=no-offset:ZONE` of log-to-script or live, which names its zone"
+MEND_VALUE = (
+    "take the log again with `--mend SITE=text-value` of report, follow or log-to-script, which takes it as "
+    "a number"
+)
+MEND_TIME = (
+    "take the log again with `--mend SITE=no-offset:ZONE` of report, follow or log-to-script, which names "
+    "its zone"
+)
 
 
 class Token(str):
@@ -51,6 +56,7 @@ LONGEST_READING, GREATEST_EXPONENT, MOST_MWH = 36, 99, 10**13
 EXPONENT = re.compile(r"[eE]([+-]?)0*([0-9]+)$")
 EXACT = decimal.Context(prec=400)
 
+Said = tuple[str, str]  # A cause and its remedy.
 Failed = tuple[str, str, str]  # The fault, the member, and what is wrong with it.
 
 
@@ -218,7 +224,7 @@ class Checks:
 
 
 MORE_ROOM = (
-    "more room by --limits of log-to-script or live, in a script by a line `limits <transactions> <events> "
+    "more room by --limits of report, follow or log-to-script, in a script by a line `limits <transactions> <events> "
     "<readings> <changes>` before its `station` line"
 )
 REMEDIES = {
@@ -244,6 +250,14 @@ REMEDIES = {
     "ChangesExhausted": (
         "the station has accepted as many changes as its limits allow",
         MORE_ROOM,
+    ),
+    "TooManyOpen": (
+        "the station has as many transactions without an end as its site's quota allows",
+        "look why the station ends none; raise the quota by `plan quota` where it is right",
+    ),
+    "TooManyBytes": (
+        "the station sent as much on this day (UTC) as its site's quota allows",
+        "look what the station sends; raise the quota by `plan quota` where it is right",
     ),
     "NoSuchEvent": (
         "the station has no event with this transaction id and this number",

@@ -5,8 +5,6 @@ import re
 from collections.abc import Iterator
 from typing import Any, NamedTuple
 
-from ocpp_board.limits import LONGEST_LINE
-
 B = r"[ \t\r\n]*"
 TEXT = r'"((?:[^"\\]|\\.)*+)"'
 BLANKS = re.compile(B)
@@ -142,19 +140,3 @@ def one_line(text: str) -> str:
     except (ValueError, RecursionError):
         return text.replace("\n", "\x01").replace("\0", "\x01")
     return text.replace("\n", " ")
-
-
-def msg_line(station: str, message: str) -> bytes:
-    """The line of a script that has this message, with its line feed. Raises Refused where it is too long."""
-    try:
-        line = f"msg {station} {message}".replace("\n", " ").encode("utf-8")
-    except UnicodeEncodeError:
-        raise Refused("half a surrogate pair in the message, which UTF-8 can't write") from None
-    # The replay drops one carriage return before a line feed: the message's own stays.
-    if line.endswith(b"\r"):
-        line += b"\r"
-    if len(line) > LONGEST_LINE:
-        raise Refused(
-            f"its script line would have more than {LONGEST_LINE:,} bytes", f"{len(line):,}"
-        )
-    return line + b"\n"

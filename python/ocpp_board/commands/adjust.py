@@ -1,0 +1,103 @@
+"""Declare a fact beside a session's proved number: a meter that was exchanged, an end by estimate, a credit.
+
+    ocpp-board adjust --store ledger.db exchange CS-01 1 --at 2026-03-02T10:15:00Z --old-end 4711.5 --new-begin 0 \\
+        --why "meter exchanged"
+    ocpp-board adjust --store ledger.db estimate CS-01 T-4711 --register next --why "the station was cut off"
+    ocpp-board adjust --store ledger.db credit CS-01 T-4711 --kwh -1.5 --why "the cable was locked"
+    ocpp-board adjust --store ledger.db propose --site north
+
+The ledger's number stays. Bills and settlement files have it, the adjustments, each with who and why, and their sum. An
+adjustment is never removed: declare one of the opposite amount. `propose` lists sessions whose register was reset, with
+the line that would adjust each if the meter was exchanged between the two readings.
+"""
+
+import argparse
+
+from ocpp_board.commands.options import add_author, add_store, read_author, read_mwh, read_time
+from ocpp_board.energies import kwh
+from ocpp_board.errors import UsageError
+from ocpp_board.statuses import Status
+from ocpp_board.store.database import Database, open_store
+from ocpp_board.store.decisions import (
+    Adjustment,
+    adjust,
+    declare_credit,
+    declare_estimate,
+    declare_exchange,
+    propose_exchanges,
+)
+from ocpp_board.writers.bills import find_zone, write_signed_kwh
+
+
+def add_words(parser: argparse.ArgumentParser) -> None:
+    """The words of the command."""
+    add_store(parser)
+    words = parser.add_subparsers(dest="word", metavar="WORD", required=True)
+    exchange = words.add_parser("exchange", help="a meter was exchanged, or rolled over")
+    exchange.add_argument("station", metavar="STATION")
+    exchange.add_argument("evse", metavar="EVSE", type=int)
+    exchange.add_argument("--at", required=True, type=read_time, metavar="TIME", help="when")
+    exchange.add_argument("--old-end", required=True, type=read_mwh, metavar="KWH")
+    exchange.add_argument("--new-begin", required=True, type=read_mwh, metavar="KWH")
+    estimate = words.add_parser("estimate", help="a session's end did not come")
+    credit = words.add_parser("credit", help="energy beside the ledger's, below 0 for a credit")
+    for one in (estimate, credit):
+        one.add_argument("station", metavar="STATION")
+        one.add_argument("transaction", metavar="TRANSACTION")
+    estimate.add_argument(
+        "--register",
+        required=True,
+        metavar="KWH",
+        help="what the register read at its end; next: what the next session of the EVSE began with",
+    )
+    credit.add_argument("--kwh", required=True, type=read_mwh, dest="imported", metavar="KWH")
+    credit.add_argument("--exported-kwh", default=0, type=read_mwh, dest="exported", metavar="KWH")
+    for one in (exchange, estimate, credit):
+        add_author(one)
+    propose = words.add_parser("propose", help="sessions whose register was reset")
+    propose.add_argument("--site", required=True)
+
+
+def declare(store: Database, words: argparse.Namespace) -> Adjustment:
+    """The adjustment that the words declare. Raises UsageError."""
+    if words.word == "exchange":
+        return declare_exchange(
+            store, words.station, words.evse, words.at, words.old_end, words.new_begin
+        )
+    if words.word == "credit":
+        return declare_credit(
+            store, words.station, words.transaction, words.imported, words.exported
+        )
+    try:
+        register = None if words.register == "next" else read_mwh(words.register)
+    except argparse.ArgumentTypeError as fault:
+        raise UsageError(f"--register: {fault}") from None
+    return declare_estimate(store, words.station, words.transaction, register)
+
+
+def propose(store: Database, words: argparse.Namespace) -> None:
+    """Prints the sessions whose register was reset, and how to adjust them."""
+    find_zone(store, words.site)
+    for row in propose_exchanges(store, words.site):
+        print(f"{row.transaction_id} of {row.station}, EVSE {row.evse}: {row.detail}")
+        print(
+            f"  ocpp-board adjust --store {words.store} credit {row.station} {row.transaction_id} "
+            f"--kwh {write_signed_kwh(row.down)} --why 'meter exchanged'"
+        )
+
+
+def run(words: argparse.Namespace) -> int:
+    """Declares an adjustment, or proposes some."""
+    with open_store(words.store) as store:
+        if words.word == "propose":
+            propose(store, words)
+            return Status.DONE
+        one = declare(store, words)
+        adjust(store, one, read_author(words))
+    session = one.session
+    had = session.up - session.down
+    print(
+        f"{session.transaction_id} of {session.station}: imported {kwh(had)} kWh by the ledger, adjusted by "
+        f"{kwh(one.imported)} kWh"
+    )
+    return Status.DONE

@@ -1,0 +1,88 @@
+"""The process that settles batches: reads them from standard input, and writes their answers to standard output.
+
+    python3 -m ocpp_board.gateway.settler STORE
+
+A batch is pickled by the gateway, which is the only writer of this process' standard input.
+"""
+
+import pickle
+import signal
+import sys
+import time
+import traceback
+from typing import Any, BinaryIO
+
+from ocpp_board.errors import StoreAway
+from ocpp_board.gateway.lanes import HEAD, Fate
+from ocpp_board.ledger.engine import settle
+from ocpp_board.records import Answer, Message
+from ocpp_board.store.database import Database, open_store
+from ocpp_board.store.lines import Warm
+
+# What a station gets for a line that the ledger could not take.
+FAULT = '[4,"-1","InternalError","{}",{{}}]'
+
+
+def make_reply(answer: Answer) -> str | None:
+    """What the station gets."""
+    return FAULT.format(answer.name) if answer.outcome == "fault" else answer.reply
+
+
+class Desk:
+    """A store that is opened again after a failure."""
+
+    def __init__(self, address: str) -> None:
+        self.address = address
+        self.store: Database | None = None
+        self.warm = Warm()
+
+    def settle(self, asked: list[Message]) -> list[Answer]:
+        """The answers to these messages, once what they change is stored. Raises StoreError."""
+        if self.store is None:
+            self.store = open_store(self.address)
+        try:
+            return settle(self.store, asked, warm=self.warm)
+        except BaseException:
+            store, self.store = self.store, None
+            store.close()
+            raise
+
+    def answer(self, requests: list[Any]) -> tuple[Any, ...]:
+        """What the gateway gets for a batch."""
+        began = time.process_time()
+        try:
+            answers = self.settle([Message(*request) for request in requests])
+        except StoreAway as fault:
+            return Fate.AWAY.value, [], str(fault)
+        except Exception as fault:
+            why = "".join(traceback.format_exception(fault))
+            return Fate.FAILED.value, [], why
+        rows = [(one.outcome, one.name, make_reply(one)) for one in answers]
+        return Fate.ANSWERED.value, rows, "", time.process_time() - began
+
+
+def read_batch(source: BinaryIO) -> list[Any] | None:
+    """The next batch; None at the end."""
+    head = source.read(HEAD.size)
+    if len(head) < HEAD.size:
+        return None
+    (size,) = HEAD.unpack(head)
+    data = source.read(size)
+    found: list[Any] = pickle.loads(data) if len(data) == size else None
+    return found
+
+
+def main() -> None:
+    """Settles batches until the gateway ends."""
+    signal.signal(signal.SIGINT, signal.SIG_IGN)
+    source, target = sys.stdin.buffer, sys.stdout.buffer
+    sys.stdout = sys.stderr
+    desk = Desk(sys.argv[1])
+    while (batch := read_batch(source)) is not None:
+        data = pickle.dumps(desk.answer(batch), pickle.HIGHEST_PROTOCOL)
+        target.write(HEAD.pack(len(data)) + data)
+        target.flush()
+
+
+if __name__ == "__main__":
+    main()

@@ -1,0 +1,632 @@
+"""The one writer of lines and rows: it settles texts and operators' lines in a store, and answers them.
+
+What the texts ask for is the program's word. Then, in one database transaction: the transactions named are held in the
+order of their keys, their lines are read, the program answers old lines and new ones, and what changed is written. An
+answer is given only after the commit. A failure gives none, and the same may come again: a repeat changes nothing.
+"""
+
+import re
+from collections.abc import Callable, Iterable, Iterator, Sequence
+from contextlib import AbstractContextManager, nullcontext
+from dataclasses import dataclass, field
+from datetime import datetime, timezone
+from functools import partial
+from operator import attrgetter
+from typing import Any, NamedTuple, Protocol
+
+from ocpp_board.ledger.answers import Wish
+from ocpp_board.ledger.program import find_program
+from ocpp_board.ledger.quotas import Asking, find_refused, write_reply
+from ocpp_board.ledger.refusals import (
+    CONFLICT,
+    UNKNOWN_STATION,
+    UNTAKEN,
+    Refusal,
+    describe_message,
+    describe_stranger,
+    describe_untaken,
+    digest_text,
+    find_names,
+    is_left_out,
+    keep_text,
+    name_cause,
+    read_levels,
+)
+from ocpp_board.ledger.rows import DELIVER, Done, Work, list_accepted, work_out
+from ocpp_board.limits import FIRST_MOMENT
+from ocpp_board.messages.texts import one_line
+from ocpp_board.messages.times import SECOND
+from ocpp_board.records import Answer, Asked, Deed, Line, Message, Rules, Untaken
+from ocpp_board.store import lines as store_lines
+from ocpp_board.store.database import Database, Row, choose
+from ocpp_board.store.lines import Held, Kept, Key, Warm, Writer
+from ocpp_board.store.plan import RULES_COLUMNS, Author, lock_sites, read_rules, write_site
+
+# An origin that is a place in a file, such as `csms.log:17`.
+PLACE = re.compile(r"(?!.*://).*:[0-9]+")
+# Texts that a process of a pool is asked at once, and the size of the works that it gets at once.
+TEXTS_AT_ONCE, BYTES_AT_ONCE = 2_000, 1_048_576
+# Transactions that are computed again at once where rules change.
+SESSIONS_AT_ONCE = 2_000
+EPOCH = datetime(1970, 1, 1, tzinfo=timezone.utc)
+
+
+class Pool(Protocol):
+    """Processes that work at once."""
+
+    def imap(self, function: Any, pieces: Iterable[Any], /) -> Iterator[Any]:
+        """What the function makes of each piece, in their order."""
+
+
+@dataclass(slots=True)
+class Batch:
+    """What one call settles. `answers`: by the places of what was asked."""
+
+    asked: Sequence[Asked]
+    wishes: dict[int, Wish]
+    answers: dict[int, Answer] = field(default_factory=dict)
+    # By transaction, the places of what asks for it.
+    sessions: dict[Key, list[int]] = field(default_factory=dict)
+    refusals: list[tuple[Asked, Refusal, str]] = field(default_factory=list)
+    strays: list[tuple[Message, Wish]] = field(default_factory=list)
+    # Messages of no transaction, by their places, and those of them that may have readings.
+    replied: dict[int, Message] = field(default_factory=dict)
+    others: list[Message] = field(default_factory=list)
+    # Messages that were mended, each with what it asks for.
+    mended: list[tuple[Message, Wish]] = field(default_factory=list)
+
+
+# What will become of transactions: their works, and what is done of them.
+Foreseen = dict[Key, tuple[Work, Done]]
+
+
+class Piece(NamedTuple):
+    """The transactions that a process works on."""
+
+    keys: list[Key]
+    works: list[Work]
+
+
+def settle(
+    store: Database,
+    asked: Sequence[Asked],
+    pool: Pool | None = None,
+    *,
+    also: Callable[[Database], None] | None = None,
+    warm: Warm | None = None,
+    guard: AbstractContextManager[Any] | None = None,
+) -> list[Answer]:
+    """Answers what is asked, in its order, once all that it changes is committed. Raises StoreError and ProgramError,
+    and then nothing has changed. `pool`: processes among which texts and transactions are parted; `also`: is called
+    within the database transaction, right before its commit; `warm`: what this process stored last; `guard`: is held
+    together with a SQLite file, where several processes settle at once, and all that can be is computed before.
+    """
+    batch = Batch(asked, ask_program(asked, pool))
+    sort_asked(batch)
+    find_strangers(store, batch)
+    if batch.sessions or batch.refusals or batch.others or batch.mended or also:
+        foreseen = foresee(store, batch) if guard and store.kind == "sqlite" else {}
+        with guard or nullcontext(), store.transaction():
+            kept = write_batch(store, batch, pool, warm, foreseen)
+            if also:
+                also(store)
+        if warm is not None:
+            for key, one in kept.items():
+                warm.keep(key, one)
+    return [batch.answers[place] for place in range(len(asked))]
+
+
+# What is asked -------------------------------------------------------------------------------------------------------
+
+
+def ask_program(asked: Sequence[Asked], pool: Pool | None) -> dict[int, Wish]:
+    """What each message asks for, by its place."""
+    places = [place for place, one in enumerate(asked) if isinstance(one, Message)]
+    texts, moments = list[str](), list[int | None]()
+    for place in places:
+        one = asked[place]
+        assert isinstance(one, Message)
+        texts.append(one.text)
+        moments.append(to_nanoseconds(one.received))
+    if pool is None or len(texts) <= TEXTS_AT_ONCE:
+        return dict(zip(places, find_program().ask(texts, moments) if texts else ()))
+    pieces = [
+        (texts[at : at + TEXTS_AT_ONCE], moments[at : at + TEXTS_AT_ONCE])
+        for at in range(0, len(texts), TEXTS_AT_ONCE)
+    ]
+    wishes = (wish for some in pool.imap(ask_piece, pieces) for wish in some)
+    return dict(zip(places, wishes))
+
+
+def ask_piece(piece: tuple[list[str], list[int | None]]) -> list[Wish]:
+    """What texts ask for, in a process of a pool."""
+    return find_program().ask(*piece)
+
+
+def to_nanoseconds(at: datetime | None) -> int | None:
+    """A moment in nanoseconds since 1970."""
+    if at is None:
+        return None
+    since = at - EPOCH
+    return ((since.days * 86_400 + since.seconds) * 1_000_000 + since.microseconds) * (
+        SECOND // 1_000_000
+    )
+
+
+def sort_asked(batch: Batch) -> None:
+    """Answers what needs no transaction, and sorts the rest by transaction."""
+    for place, one in enumerate(batch.asked):
+        if isinstance(one, Untaken):
+            batch.refusals.append((one, describe_untaken(one), one.transaction.lower()))
+            batch.answers[place] = Answer("untaken")
+        elif isinstance(one, Deed):
+            batch.sessions.setdefault((one.station, one.transaction.lower()), []).append(place)
+        else:
+            sort_message(batch, place, one, batch.wishes[place])
+            if one.mends:
+                batch.mended.append((one, batch.wishes[place]))
+
+
+def sort_message(batch: Batch, place: int, one: Message, wish: Wish) -> None:
+    """Sorts a message by what it asks for."""
+    if wish.outcome == "event":
+        batch.sessions.setdefault((one.station, wish.text), []).append(place)
+        return
+    batch.replied[place] = one
+    if wish.outcome == "silent":
+        batch.answers[place] = Answer("silent")
+        return
+    cause = wish.text if wish.outcome == "fault" else name_cause(wish.text)
+    if not cause:
+        batch.answers[place] = Answer("reply", "", wish.text)
+        if '"MeterValues"' in one.text:
+            batch.others.append(one)
+        return
+    reply = None if wish.outcome == "fault" else wish.text
+    if is_left_out(one.text, cause):
+        batch.answers[place] = Answer("reply", cause, reply)
+        return
+    refusal = describe_message(one.text, cause, one.received)
+    batch.refusals.append((one, refusal, refusal.sent_id.lower()))
+    batch.answers[place] = Answer(wish.outcome if reply is None else "refused", cause, reply)
+
+
+def find_strangers(store: Database, batch: Batch) -> None:
+    """Notes messages of no transaction that are of stations that no site has."""
+    stations = {one.station for one in batch.replied.values()}
+    strangers = stations - store_lines.find_sites(store, sorted(stations)).keys()
+    if not strangers:
+        return
+    batch.refusals = [
+        one
+        for one in batch.refusals
+        if isinstance(one[0], Untaken) or one[0].station not in strangers
+    ]
+    kept = {id(one) for one in batch.others}
+    for place, one in batch.replied.items():
+        if one.station in strangers:
+            batch.answers[place] = Answer("stray", UNKNOWN_STATION, batch.answers[place].reply)
+            if id(one) not in kept:
+                batch.refusals.append((one, describe_stranger(one), ""))
+
+
+# Writing -------------------------------------------------------------------------------------------------------------
+
+
+def write_batch(
+    store: Database, batch: Batch, pool: Pool | None, warm: Warm | None, foreseen: Foreseen
+) -> dict[Key, Kept]:
+    """Writes what a batch changes, within a database transaction, and answers the rest of it."""
+    sites = hold_sites(store, batch)
+    leave_strays(batch, sites)
+    refuse_by_quotas(store, batch, sites)
+    held = store_lines.hold_sessions(
+        store, {key: sites[key[0]] for key in batch.sessions if key[0] in sites}, warm
+    )
+    deeds = find_done(store, batch)
+    batch.answers |= deeds
+    works = make_works(store, batch, held, deeds)
+    writer = Writer(store, warm is not None)
+    for key, work, done in work_on(works, pool, foreseen):
+        take_answers(writer, batch, work, done, held[key], deeds)
+    writer.write()
+    write_refusals(store, batch)
+    write_strays(store, batch)
+    write_mended(store, batch)
+    write_levels(store, batch, sites)
+    return writer.kept
+
+
+def make_works(
+    store: Database, batch: Batch, held: dict[Key, Held], deeds: dict[int, Answer]
+) -> dict[Key, Work]:
+    """The works of transactions that are held."""
+    rules = find_all_rules(store, {one.site for one in held.values()})
+    works = dict[Key, Work]()
+    for key, one in held.items():
+        new = list_new(batch, batch.sessions[key], deeds)
+        works[key] = Work(*key, one.site, rules[one.site], one.lines, new, list_conflicts(key, one))
+    return works
+
+
+def foresee(store: Database, batch: Batch) -> Foreseen:
+    """What will become of a batch's transactions, if nobody changes them meanwhile."""
+    with store.snapshot():
+        sites = store_lines.find_sites(store, sorted({key[0] for key in batch.sessions}))
+        known = {key: sites[key[0]] for key in batch.sessions if key[0] in sites}
+        works = make_works(
+            store, batch, store_lines.hold_sessions(store, known), find_done(store, batch)
+        )
+    return {key: (work, done) for key, work, done in work_on(works, None)}
+
+
+def hold_sites(store: Database, batch: Batch) -> dict[str, str]:
+    """The sites of the batch's stations; their plan does not change up to the end of the database transaction."""
+    stations = sorted({key[0] for key in batch.sessions} | {one.station for one in batch.others})
+    while True:
+        sites = store_lines.find_sites(store, stations)
+        if store.kind != "postgresql":
+            return sites
+        known = store_lines.find_session_sites(store, list(batch.sessions))
+        lock_sites(store, [*sites.values(), *known.values()], False)
+        if store_lines.find_sites(store, stations) == sites:
+            return sites
+
+
+def leave_strays(batch: Batch, sites: dict[str, str]) -> None:
+    """Sets aside what is of stations that no site has."""
+    for key in [key for key in batch.sessions if key[0] not in sites]:
+        for place in batch.sessions.pop(key):
+            one = batch.asked[place]
+            if isinstance(one, Message):
+                batch.strays.append((one, batch.wishes[place]))
+                batch.answers[place] = Answer("stray", UNKNOWN_STATION, None, key[1])
+            else:
+                batch.answers[place] = Answer("fault", UNKNOWN_STATION, None, key[1])
+    for one in batch.others:
+        if one.station not in sites:
+            batch.strays.append((one, Wish("reply")))
+
+
+def refuse_by_quotas(store: Database, batch: Batch, sites: dict[str, str]) -> None:
+    """Answers messages that are above a quota of their site, which change nothing."""
+    asking = [
+        Asking(place, one, key)
+        for key, places in batch.sessions.items()
+        for place in places
+        if isinstance(one := batch.asked[place], Message)
+    ]
+    values = {id(one) for one in batch.others}
+    asking += [
+        Asking(place, one, None)
+        for place, one in enumerate(batch.asked)
+        if id(one) in values and isinstance(one, Message) and one.station in sites
+    ]
+    asking.sort(key=attrgetter("place"))
+    for place, name in find_refused(store, asking, sites).items():
+        one = batch.asked[place]
+        assert isinstance(one, Message)
+        key = (one.station, batch.wishes[place].text)
+        if key in batch.sessions:
+            batch.sessions[key].remove(place)
+            if not batch.sessions[key]:
+                del batch.sessions[key]
+        else:
+            batch.others = [other for other in batch.others if other is not one]
+        refusal = describe_message(one.text, name, one.received)
+        batch.refusals.append((one, refusal, refusal.sent_id.lower()))
+        batch.answers[place] = Answer("refused", name, write_reply(one.text, name))
+
+
+def find_all_rules(store: Database, sites: Iterable[str]) -> dict[str, Rules]:
+    """The rules of sites."""
+    asked = f"select site, {RULES_COLUMNS} from site where site"
+    if store.kind == "postgresql":
+        rows = store.fetch(f"{asked} = any(:sites)", sites=sorted(sites))
+    else:
+        some = store.fetch_each(f"{asked} = :site", [{"site": site} for site in sorted(sites)])
+        rows = [row for one in some for row in one]
+    return {row.site: read_rules(row) for row in rows}
+
+
+def list_conflicts(key: Key, held: Held) -> list[str]:
+    """The lines of messages that conflicted with a transaction's events."""
+    texts = (row.text for row in held.refusals if row.cause == CONFLICT)
+    return [f"{DELIVER}{key[0]} {one_line(text)}" for text in texts]
+
+
+def name_deed(one: Deed) -> dict[str, Any]:
+    """The key of an operator's line."""
+    return {
+        "station": one.station,
+        "transaction": one.transaction.lower(),
+        "number": one.number,
+        "word": one.word,
+        "at": one.received or FIRST_MOMENT,
+        "origin": one.origin,
+    }
+
+
+def find_done(store: Database, batch: Batch) -> dict[int, Answer]:
+    """The answers to those of the batch's operators' lines that were settled before, by their places."""
+    places = [
+        place
+        for some in batch.sessions.values()
+        for place in some
+        if isinstance(batch.asked[place], Deed)
+    ]
+    keys = [name_deed(one) for place in places if isinstance(one := batch.asked[place], Deed)]
+    rows = store_lines.find_deeds(store, keys) if keys else []
+    return {
+        place: Answer(row.outcome, row.name, None, key["transaction"], row.count)
+        for place, key, row in zip(places, keys, rows)
+        if row is not None
+    }
+
+
+def list_new(batch: Batch, places: Iterable[int], deeds: dict[int, Answer]) -> list[Line]:
+    """The lines that are asked of a transaction, but for those of operators that were settled before."""
+    return [make_line(batch.asked[place]) for place in places if place not in deeds]
+
+
+def make_line(one: Asked) -> Line:
+    """The line of what is asked."""
+    if isinstance(one, Message):
+        text = f"{DELIVER}{one.station} {one_line(one.text)}"
+        return Line(0, text, one.received, "", "", one.origin)
+    assert isinstance(one, Deed)
+    text = f"{one.word} {one.station} {one.transaction} {one.number}"
+    return Line(0, text, one.received, one.who, one.why, one.origin)
+
+
+def work_on(
+    works: dict[Key, Work], pool: Pool | None, foreseen: Foreseen | None = None
+) -> Iterator[tuple[Key, Work, Done]]:
+    """What became of each transaction's new lines, and its rows."""
+    some = {key: work for key, work in works.items() if work.new or work.has_rows}
+    for key, (work, done) in (foreseen or {}).items():
+        if some.get(key) == work:
+            yield key, some.pop(key), done
+    if pool is None:
+        for (key, work), done in zip(some.items(), work_out(find_program(), some.values())):
+            yield key, work, done
+        return
+    pieces = list(part_pieces(some))
+    for piece, found in zip(pieces, pool.imap(work_piece, (piece.works for piece in pieces))):
+        yield from zip(piece.keys, piece.works, found)
+
+
+def part_pieces(works: dict[Key, Work]) -> Iterator[Piece]:
+    """Works in pieces for the processes of a pool."""
+    piece, size = Piece([], []), 0
+    for key, work in works.items():
+        piece.keys.append(key)
+        piece.works.append(work)
+        size += sum(len(line.text) for line in (*work.stored, *work.new))
+        if size > BYTES_AT_ONCE:
+            yield piece
+            piece, size = Piece([], []), 0
+    if piece.keys:
+        yield piece
+
+
+def work_piece(works: list[Work]) -> list[Done]:
+    """What became of transactions, in a process of a pool."""
+    return list(work_out(find_program(), works))
+
+
+def take_answers(
+    writer: Writer, batch: Batch, work: Work, done: Done, held: Held, deeds: dict[int, Answer]
+) -> None:
+    """Notes the answers to a transaction's lines, and has its lines and rows written."""
+    key, store, taken = (work.station, work.transaction), writer.store, set[int]()
+    places = [place for place in batch.sessions[key] if place not in deeds]
+    for place, (outcome, name, reply, change) in zip(places, done.answers):
+        batch.answers[place] = Answer(outcome, name, reply, key[1], change)
+        one = batch.asked[place]
+        if isinstance(one, Message):
+            if outcome in ("accepted", "repeat"):
+                taken.add(batch.wishes[place].number)
+            elif outcome in ("refused", "fault"):
+                refusal = describe_message(one.text, name, one.received)
+                batch.refusals.append((one, refusal, key[1]))
+        elif isinstance(one, Deed):
+            write_deed(store, one, batch.answers[place])
+    write_rows(writer, work, held, done)
+    untaken = [row for row in held.refusals if row.cause == UNTAKEN and row.number in taken]
+    if untaken:
+        store.execute_each(
+            "delete from refusal where station = :station and cause = :cause and digest = :digest",
+            [{"station": key[0], "cause": row.cause, "digest": row.digest} for row in untaken],
+        )
+
+
+def write_rows(writer: Writer, work: Work, held: Held, done: Done) -> None:
+    """Has the accepted lines of a transaction and its rows written."""
+    key = work.station, work.transaction
+    if done.rows is None:
+        if not held.lines:
+            writer.drop_empty(key)
+        return
+    parts = [one._asdict() for one in done.rows.parts]
+    findings = [
+        {"kind": one.kind.label, "times": one.times, "first_at": one.first, "detail": one.detail}
+        for one in done.rows.findings
+    ]
+    session = done.rows.session._asdict()
+    writer.add(key, held, list_accepted(work, done.answers), session, parts, findings)
+
+
+def write_deed(store: Database, one: Deed, answer: Answer) -> None:
+    """Adds an operator's line with its answer."""
+    store.execute(
+        store_lines.ADD_DEED,
+        **name_deed(one),
+        who=one.who,
+        why=one.why,
+        outcome=answer.outcome,
+        name=answer.name,
+        count=answer.count,
+    )
+
+
+def name_place(origin: str) -> str:
+    """An origin as the places of a text have it; empty where it is no place in a file."""
+    return f"\n{origin}\n" if PLACE.fullmatch(origin) else ""
+
+
+def write_refusals(store: Database, batch: Batch) -> None:
+    """Adds what was refused, or counts it where it came before."""
+    kept, rows = dict[tuple[str, str], set[str]](), list[dict[str, Any]]()
+    for one, refusal, transaction in batch.refusals:
+        kind = one.station, refusal.cause
+        if kind not in kept:
+            kept[kind] = store_lines.find_digests(store, *kind)
+        row = {
+            "station": one.station,
+            "cause": refusal.cause,
+            "digest": refusal.digest,
+            "site": getattr(one, "site", None) or "",
+            "transaction": transaction,
+            "number": refusal.number,
+            "sent_id": refusal.sent_id,
+            "sent_number": refusal.sent_number,
+            "what": refusal.what,
+            "advice": refusal.advice,
+            "text": refusal.text,
+            "origins": name_place(one.origin),
+            "at": refusal.at,
+        }
+        if len(kept[kind]) >= store_lines.MOST_TEXTS and refusal.digest not in kept[kind]:
+            row |= {"digest": store_lines.MANY, "transaction": "", "number": None, "sent_id": ""}
+            row |= {"sent_number": "", "what": store_lines.ONE_OF_MANY}
+        kept[kind].add(str(row["digest"]))
+        rows.append(row)
+    if rows:
+        store.execute_each(choose(store_lines.ADD_REFUSAL, store.kind), rows)
+
+
+def write_strays(store: Database, batch: Batch) -> None:
+    """Adds messages of stations that no site has, or counts them where they came before."""
+    rows = list[dict[str, Any]]()
+    for one, wish in batch.strays:
+        named = find_names(one.text)
+        refusal = Refusal(UNKNOWN_STATION, "", "", named.sent_id, "", one.text, None)
+        rows.append(
+            {
+                "station": one.station,
+                "digest": refusal.digest,
+                "site": one.site or "",
+                "transaction": wish.text,
+                "number": wish.number if wish.outcome == "event" else None,
+                "sent_id": named.sent_id,
+                "text": keep_text(one.text),
+                "origin": one.origin,
+                "origins": name_place(one.origin),
+                "at": one.received or named.at,
+            }
+        )
+    if rows:
+        store.execute_each(choose(store_lines.ADD_STRAY, store.kind), rows)
+
+
+def write_mended(store: Database, batch: Batch) -> None:
+    """Adds messages that were mended."""
+    rows = [
+        {
+            "station": one.station,
+            "digest": digest_text(one.came),
+            "transaction": wish.text if wish.outcome == "event" else "",
+            "number": wish.number if wish.outcome == "event" else None,
+            "at": one.received or find_names(one.text).at,
+            "mends": one.mends,
+            "came": keep_text(one.came),
+            "origin": one.origin,
+        }
+        for one, wish in batch.mended
+    ]
+    if rows:
+        store.execute_each(store_lines.ADD_MENDED, rows)
+
+
+def write_levels(store: Database, batch: Batch, sites: dict[str, str]) -> None:
+    """Adds what registers read in MeterValues outside transactions."""
+    found = dict[tuple[str, int], list[tuple[datetime, int]]]()
+    for one in batch.others:
+        evse, levels = read_levels(one.text) if one.station in sites else (0, [])
+        for level in levels:
+            at = datetime.fromtimestamp(level.at, timezone.utc)
+            found.setdefault((one.station, evse), []).append((at, level.mwh))
+    for (station, evse), some in sorted(found.items()):
+        store_lines.merge_level(store, station, evse, some)
+
+
+# The plan ------------------------------------------------------------------------------------------------------------
+
+
+def change_site(
+    store: Database, site: str, rules: Rules, author: Author, where: str = "plan"
+) -> int:
+    """Adds a site or gives it other rules, and computes the rows of its transactions again. Returns how many of these
+    there were. Raises InputError."""
+    with store.transaction():
+        if not write_site(store, site, rules, author, where):
+            return 0
+        return compute_again(store, site, rules)
+
+
+def compute_again(store: Database, site: str, rules: Rules) -> int:
+    """Computes the rows of a site's transactions by these rules, within a database transaction that holds its plan."""
+    count, after = 0, ("", "")
+    asked = """select station, transaction_id from session where site = :site and (station > :station
+    or station = :station and transaction_id > :transaction) order by station, transaction_id limit :most"""
+    while True:
+        rows = store.fetch(
+            asked, site=site, station=after[0], transaction=after[1], most=SESSIONS_AT_ONCE
+        )
+        if not rows:
+            return count
+        keys = [(row.station, row.transaction_id) for row in rows]
+        held = store_lines.hold_sessions(store, dict.fromkeys(keys, site))
+        no_lines = list[Line]()
+        works = {
+            key: Work(
+                *(*key, site, rules, one.lines, no_lines),
+                list_conflicts(key, one),
+                True,
+            )
+            for key, one in held.items()
+        }
+        writer = Writer(store)
+        for key, work, done in work_on(works, None):
+            write_rows(writer, work, held[key], done)
+        writer.write()
+        count, after = count + len(keys), keys[-1]
+
+
+def take_strays(
+    store: Database, stations: Iterable[str] | None = None, pool: Pool | None = None
+) -> list[Answer]:
+    """Settles what came of stations before the plan had them, in the order of receipt. `stations`: None for all that
+    the plan has by now."""
+    asked = """select station, digest, site, text, received, origin from stray where station = :station
+    order by received, origin, digest"""
+    if stations is None:
+        rows = store.fetch("select distinct station from stray order by station")
+        stations = [row.station for row in rows]
+    answers = list[Answer]()
+    for station in store_lines.find_sites(store, sorted(stations)):
+        rows = store.fetch(asked, station=station)
+        texts = [
+            Message(station, row.text, row.received, row.origin, row.site or None) for row in rows
+        ]
+        answers += settle(store, texts, pool, also=partial(forget_strays, rows))
+    return answers
+
+
+def forget_strays(rows: Sequence[Row], store: Database) -> None:
+    """Removes strays that were settled."""
+    store.execute_each(
+        "delete from stray where station = :station and digest = :digest",
+        [{"station": row.station, "digest": row.digest} for row in rows],
+    )

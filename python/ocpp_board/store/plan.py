@@ -1,0 +1,254 @@
+"""The plan of a store: its sites with their rules, its stations, and who changed them when and why."""
+
+import json
+from collections.abc import Iterator
+from dataclasses import asdict, dataclass
+from datetime import datetime, timedelta, timezone
+from typing import Any
+from zoneinfo import ZoneInfo, ZoneInfoNotFoundError
+
+from ocpp_board.errors import InputError
+from ocpp_board.limits import FIRST_MOMENT, GREATEST_LIMITS, ORDERS, PAST_MOMENTS, PERIODS
+from ocpp_board.limits import RULES as SETTLES
+from ocpp_board.limits import is_name
+from ocpp_board.records import Limits, Rules
+from ocpp_board.store.database import Database, Row
+
+RULES_COLUMNS = "period, reading_order, settle, zone, events, readings, most_kw"
+# The advisory locks of PostgreSQL by sites: writers of lines share one, who changes a site's plan has it alone.
+SITE_LOCK = 7_201_402
+
+
+@dataclass(frozen=True, slots=True)
+class Author:
+    """Who changes something, and why."""
+
+    who: str
+    why: str
+
+
+def read_rules(row: Row) -> Rules:
+    """The rules that a row of `site` has."""
+    limits = Limits(row.events, row.readings)
+    return Rules(row.period, row.reading_order, row.settle, limits, row.zone, row.most_kw)
+
+
+def find_rules(store: Database, site: str) -> Rules | None:
+    """The rules of a site; None where there is no such site."""
+    row = store.fetch_one(f"select {RULES_COLUMNS} from site where site = :site", site=site)
+    return read_rules(row) if row else None
+
+
+def list_stations(store: Database) -> dict[str, str]:
+    """All stations of the plan, each with its site, in the order in which they were added."""
+    rows = store.fetch("select station, site from station order by place, station")
+    return {row.station: row.site for row in rows}
+
+
+def check_rules(rules: Rules, where: str) -> None:
+    """Checks rules. Raises InputError, which begins with `where`."""
+    if rules.period not in PERIODS:
+        raise InputError(f"{where}: a period of {rules.period} seconds; take one of {PERIODS}")
+    if rules.order not in ORDERS:
+        raise InputError(f"{where}: {rules.order!r} is no order of readings; take one of {ORDERS}")
+    if rules.settle not in SETTLES:
+        raise InputError(f"{where}: {rules.settle!r} is no rule of settling; take one of {SETTLES}")
+    for name, value in asdict(rules.limits).items():
+        if not 0 < value <= GREATEST_LIMITS[name]:
+            raise InputError(
+                f"{where}: {value} {name}; a transaction may keep 1 to {GREATEST_LIMITS[name]}"
+            )
+    if not 0 < rules.most_kw <= 1_000_000:
+        raise InputError(f"{where}: a power of {rules.most_kw} kW; give one from 1 to 1,000,000")
+    open_zone(rules.zone, where)
+
+
+def open_zone(zone: str, where: str) -> ZoneInfo:
+    """A time zone by its name. Raises InputError."""
+    try:
+        return ZoneInfo(zone)
+    except (ZoneInfoNotFoundError, ValueError, OSError):
+        raise InputError(f"{where}: no time zone {zone!r}; name one as Europe/Berlin") from None
+
+
+def check_name(name: str, what: str, where: str) -> None:
+    """Checks the name of a site or a station. Raises InputError."""
+    if not is_name(name):
+        raise InputError(
+            f"{where}: {name!r} is no name of a {what}; names have 1 to 48 of A-Z a-z 0-9 * - _ = : + | @ ."
+        )
+
+
+def lock_sites(store: Database, sites: list[str], is_alone: bool) -> None:
+    """Holds sites up to the end of the database transaction: for their lines, or alone for their plan. SQLite has one
+    writer at a time anyway."""
+    if store.kind == "postgresql":
+        word = "" if is_alone else "_shared"
+        store.execute(
+            f"""select pg_advisory_xact_lock{word}({SITE_LOCK}, hashtext(site))
+            from (select unnest(cast(:sites as text[])) as site order by 1) as sorted""",
+            sites=sorted(set(sites)),
+        )
+
+
+def write_site(
+    store: Database, site: str, rules: Rules, author: Author, where: str = "plan"
+) -> bool:
+    """Adds a site or gives it other rules, within a database transaction. Returns whether rules changed that its rows
+    depend on: whoever calls computes them again. Raises InputError."""
+    check_name(site, "site", where)
+    check_rules(rules, where)
+    lock_sites(store, [site], True)
+    store.execute("update site set place = place where site = :site", site=site)
+    had = store.fetch_one(
+        f"select {RULES_COLUMNS}, first_settled_day from site where site = :site", site=site
+    )
+    before = read_rules(had) if had else None
+    if before == rules:
+        return False
+    if had is not None and before is not None and had.first_settled_day is not None:
+        if decide_figures(before) != decide_figures(rules):
+            raise InputError(
+                f"{where}: the period, order, rule of settling and zone of {site} are fixed, since its first day is "
+                f"settled ({had.first_settled_day})"
+            )
+    store.execute(
+        f"""insert into site (site, {RULES_COLUMNS}, place)
+        values (:site, :period, :order, :settle, :zone, :events, :readings, :most_kw,
+            (select coalesce(max(place), 0) + 1 from site))
+        on conflict (site) do update set period = excluded.period, reading_order = excluded.reading_order,
+            settle = excluded.settle, zone = excluded.zone, events = excluded.events, readings = excluded.readings,
+            most_kw = excluded.most_kw""",
+        site=site,
+        **list_values(rules),
+    )
+    write_zone(store, rules.zone)
+    note_change(store, author, "site", site, describe_rules(before), describe_rules(rules))
+    return before is not None and decide_rows(before) != decide_rows(rules)
+
+
+def decide_figures(rules: Rules) -> tuple[Any, ...]:
+    """The rules that figures depend on."""
+    return rules.period, rules.order, rules.settle, rules.zone
+
+
+def decide_rows(rules: Rules) -> tuple[Any, ...]:
+    """The rules that the rows of a transaction depend on."""
+    return rules.period, rules.order, rules.settle, rules.most_kw
+
+
+def list_values(rules: Rules) -> dict[str, Any]:
+    """Rules as the values of columns."""
+    return {
+        "period": rules.period,
+        "order": rules.order,
+        "settle": rules.settle,
+        "zone": rules.zone,
+        "events": rules.limits.events,
+        "readings": rules.limits.readings,
+        "most_kw": rules.most_kw,
+    }
+
+
+def describe_rules(rules: Rules | None) -> str:
+    """Rules as JSON; empty where there are none."""
+    return json.dumps(list_values(rules)) if rules else ""
+
+
+def write_station(
+    store: Database, station: str, site: str, author: Author, where: str = "plan"
+) -> bool:
+    """Adds a station to a site, or moves it there, within a database transaction. Transactions that it began stay where
+    they are. Returns whether it is new or moved. Raises InputError."""
+    check_name(station, "station", where)
+    if find_rules(store, site) is None:
+        raise InputError(f"{where}: there is no site {site!r}; add it first")
+    had = store.fetch_one(
+        "select site, until from station where station = :station", station=station
+    )
+    if had and had.site == site and had.until is None:
+        return False
+    lock_sites(store, [site, *([had.site] if had else [])], True)
+    store.execute(
+        """insert into station (station, site, since, place)
+        values (:station, :site, :now, (select coalesce(max(place), 0) + 1 from station))
+        on conflict (station) do update set site = excluded.site, since = excluded.since, until = null""",
+        station=station,
+        site=site,
+        now=datetime.now(timezone.utc),
+    )
+    before = json.dumps({"site": had.site, "retired": had.until is not None}) if had else ""
+    note_change(
+        store, author, "station", station, before, json.dumps({"site": site, "retired": False})
+    )
+    return True
+
+
+def retire_station(store: Database, station: str, author: Author, where: str = "plan") -> None:
+    """Ends a station, within a database transaction; its transactions stay. Raises InputError."""
+    had = store.fetch_one(
+        "select site, until from station where station = :station", station=station
+    )
+    if had is None:
+        raise InputError(f"{where}: there is no station {station!r}")
+    if had.until is None:
+        store.execute(
+            "update station set until = :now where station = :station",
+            station=station,
+            now=datetime.now(timezone.utc),
+        )
+        store.execute("delete from password where station = :station", station=station)
+        before, after = ({"site": had.site, "retired": is_retired} for is_retired in (False, True))
+        note_change(store, author, "station", station, json.dumps(before), json.dumps(after))
+
+
+def note_change(
+    store: Database, author: Author, what: str, name: str, before: str, after: str
+) -> None:
+    """Adds a row of `change`."""
+    store.execute(
+        """insert into change (at, who, why, what, name, before_text, after_text)
+        values (:now, :who, :why, :what, :name, :before, :after)""",
+        now=datetime.now(timezone.utc),
+        who=author.who,
+        why=author.why,
+        what=what,
+        name=name,
+        before=before,
+        after=after,
+    )
+
+
+def write_zone(store: Database, zone: str) -> None:
+    """Adds the offsets of a zone, where they are not there."""
+    if store.fetch_one("select 1 as one from zone_offset where zone = :zone", zone=zone):
+        return
+    store.insert_each("zone_offset", list(list_offsets(zone)))
+
+
+def list_offsets(zone: str) -> Iterator[dict[str, Any]]:
+    """What the clocks of a zone show beside UTC, from the first moment of messages to the last one."""
+    clock = ZoneInfo(zone)
+    since, offset = FIRST_MOMENT, read_offset(clock, FIRST_MOMENT)
+    at = FIRST_MOMENT
+    while at < PAST_MOMENTS:
+        after = min(at + timedelta(days=7), PAST_MOMENTS)
+        if read_offset(clock, after) != offset:
+            low, high = at, after
+            while high - low > timedelta(seconds=1):
+                middle = low + (high - low) // 2
+                if read_offset(clock, middle) == offset:
+                    low = middle
+                else:
+                    high = middle
+            after = high.replace(microsecond=0)
+            yield {"zone": zone, "since": since, "until": after, "seconds": offset}
+            since, offset = after, read_offset(clock, after)
+        at = after
+    yield {"zone": zone, "since": since, "until": PAST_MOMENTS, "seconds": offset}
+
+
+def read_offset(clock: ZoneInfo, at: datetime) -> int:
+    """What a zone's clocks show beside UTC at a moment, in seconds."""
+    offset = at.astimezone(clock).utcoffset()
+    return int(offset.total_seconds()) if offset else 0

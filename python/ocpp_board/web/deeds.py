@@ -1,0 +1,249 @@
+"""Voids, restorations and erasures of events: each asks why, shows what it will change, and is settled as a row."""
+
+import logging
+import re
+from collections.abc import Sequence
+from dataclasses import dataclass
+from datetime import datetime, timezone
+from http import HTTPStatus
+from typing import NamedTuple
+
+from markupsafe import Markup
+from starlette.responses import HTMLResponse, Response
+
+from ocpp_board.energies import Flow, kwh
+from ocpp_board.ledger.engine import settle
+from ocpp_board.ledger.program import find_program
+from ocpp_board.ledger.rows import DELIVER, Rows, Work, work_out
+from ocpp_board.limits import GREATEST_SEQ_NO, TRANSACTION, is_name
+from ocpp_board.messages.message_faults import REMEDIES
+from ocpp_board.messages.texts import one_line
+from ocpp_board.records import DEEDS, Deed, Line
+from ocpp_board.store.database import Database
+from ocpp_board.store.lines import read_lines, read_refusals
+from ocpp_board.store.plan import find_rules
+from ocpp_board.web.desk import Request, Wrong, open_view
+from ocpp_board.web.signing import OPERATOR
+from ocpp_board.web.views import LINKS, make_context
+from ocpp_board.writers.calendar import find_calendar
+from ocpp_board.writers.pages.cells import TableRow, make_columns, write_ranges
+from ocpp_board.writers.pages.reader import read_gaps
+
+log = logging.getLogger(__name__)
+
+TITLE = "Void, restore or erase an event"
+MEANINGS = {
+    "void": "The event then counts no longer and keeps its place; it can be restored.",
+    "restore": "The event was voided, and counts again.",
+    "erase": "The event was voided; its number is then free for another message, and it can't be restored.",
+}
+# Characters of a reason.
+SHORTEST, LONGEST = 3, 200
+CHANGES = make_columns("Figure", "Before", "After")
+CONFLICT = "ConflictingEvent"
+
+
+class Words(NamedTuple):
+    """What an operator wants done to which event, and why."""
+
+    word: str
+    station: str
+    transaction: str
+    number: str
+    why: str
+
+    def check(self) -> "Words":
+        """These words, with the reason on one line. Raises Wrong where they mean nothing."""
+        if self.word not in DEEDS:
+            raise Wrong(HTTPStatus.BAD_REQUEST, f"choose void, restore or erase, not {self.word!r}")
+        if not is_name(self.station):
+            raise Wrong(HTTPStatus.BAD_REQUEST, f"{self.station!r} is no name of a station")
+        if not TRANSACTION.fullmatch(self.transaction):
+            raise Wrong(
+                HTTPStatus.BAD_REQUEST, "a transaction's id has 1 to 36 characters and no blank"
+            )
+        if not re.fullmatch(r"[0-9]{1,10}", self.number) or int(self.number) > GREATEST_SEQ_NO:
+            raise Wrong(
+                HTTPStatus.BAD_REQUEST,
+                f"a sequence number is 0 to {GREATEST_SEQ_NO:,}, and not {self.number!r}",
+            )
+        why = " ".join(self.why.split())
+        if not SHORTEST <= len(why) <= LONGEST or not why.isprintable():
+            raise Wrong(HTTPStatus.BAD_REQUEST, f"say why in {SHORTEST} to {LONGEST} characters")
+        return self._replace(number=str(int(self.number)), why=why)
+
+    def write(self) -> str:
+        """The operator's line."""
+        return f"{self.word} {self.station} {self.transaction} {self.number}"
+
+
+def read_words(fields: dict[str, str]) -> Words:
+    """The words of a form or a link."""
+    return Words(*(fields.get(name, "").strip() for name in Words._fields))
+
+
+@dataclass(frozen=True)
+class Preview:
+    """What a deed will be answered, and what it will change: names of figures, each before and after."""
+
+    site: str
+    outcome: str
+    name: str
+    changes: Sequence[TableRow]
+
+
+def preview(store: Database, words: Words) -> Preview | None:
+    """What a deed will change, by the program over the stored lines; nothing is written. None where the store has no
+    such transaction."""
+    key = words.station, words.transaction.lower()
+    row = store.fetch_one(
+        "select site from session where station = :station and transaction_id = :tx",
+        station=key[0],
+        tx=key[1],
+    )
+    rules = find_rules(store, row.site) if row else None
+    if row is None or rules is None:
+        return None
+    lines = next(iter(read_lines(store, [key])))
+    refused = next(iter(read_refusals(store, [key])))
+    texts = (one_line(one.text) for one in refused if one.cause == CONFLICT)
+    conflicts = [f"{DELIVER}{key[0]} {text}" for text in texts]
+    line = Line(0, f"{words.word} {key[0]} {key[1]} {words.number}")
+    works = [
+        Work(*key, row.site, rules, lines, new, conflicts, True) for new in (list[Line](), [line])
+    ]
+    before, after = work_out(find_program(), works)
+    answer = after.answers[0]
+    assert before.rows and after.rows
+    changes = compare_rows(before.rows, after.rows, rules.zone)
+    return Preview(row.site, answer.outcome, answer.name, changes)
+
+
+def compare_rows(before: Rows, after: Rows, zone: str) -> list[TableRow]:
+    """What differs between the rows of a transaction."""
+    had, has = before.session, after.session
+    pairs = [
+        ("State", had.state or "no event counts", has.state or "no event counts"),
+        ("Events that count", str(had.events), str(has.events)),
+        ("Missing numbers", describe_gaps(had.gaps), describe_gaps(has.gaps)),
+        ("Net, kWh", kwh(find_net(had)), kwh(find_net(has))),
+        ("Up, kWh", kwh(had.up), kwh(has.up)),
+        ("Down, kWh", kwh(had.down), kwh(has.down)),
+        ("Findings", describe_findings(before), describe_findings(after)),
+    ]
+    calendar = find_calendar(zone)
+    parts = {one.starts: find_net(one) for one in before.parts}
+    others = {one.starts: find_net(one) for one in after.parts}
+    for starts in sorted(parts.keys() | others.keys()):
+        name = f"Period {calendar.minute(starts)}, kWh"
+        pairs.append((name, kwh(parts.get(starts, 0)), kwh(others.get(starts, 0))))
+    return [TableRow(pair) for pair in pairs if pair[1] != pair[2]]
+
+
+def find_net(row: object) -> int:
+    """The net energy of a row."""
+    return Flow(*(getattr(row, name) for name in Flow._fields)).net
+
+
+def describe_gaps(gaps: str) -> str:
+    """Missing numbers for a reader."""
+    return write_ranges(read_gaps(gaps)) or "none"
+
+
+def describe_findings(rows: Rows) -> str:
+    """The findings of a transaction for a reader."""
+    return ", ".join(sorted(one.kind.label for one in rows.findings)) or "none"
+
+
+# Views ----------------------------------------------------------------------------------------------------------------
+
+
+def show_form(asked: Request, words: Words, fault: str = "", status: int = 200) -> Response:
+    """The form that names an event, and what was wrong with these words."""
+    page = make_context(asked).render(
+        "operate.html",
+        TITLE,
+        find_calendar("UTC"),
+        words=words,
+        fault=fault,
+        commands=list(DEEDS),
+        longest=LONGEST,
+    )
+    return HTMLResponse(page, status)
+
+
+@open_view(OPERATOR)
+def ask_words(asked: Request) -> Response:
+    """Shows the form, filled in as far as a link says."""
+    return show_form(asked, read_words(dict(asked.http.query_params)))
+
+
+def find_preview(asked: Request, words: Words) -> Preview:
+    """What a deed will change. Raises Wrong where the operator sees no such transaction."""
+    found = preview(asked.store, words)
+    if found is None or not asked.operator.sees(found.site):
+        raise Wrong(
+            HTTPStatus.NOT_FOUND,
+            f"there is no transaction {words.transaction!r} of station {words.station!r}, or not for you",
+        )
+    return found
+
+
+@open_view(OPERATOR)
+def ask_again(asked: Request) -> Response:
+    """Shows what a deed will change, and asks again."""
+    words = read_words(dict(asked.fields))
+    try:
+        words = words.check()
+        found = find_preview(asked, words)
+    except Wrong as fault:
+        return show_form(asked, words, str(fault), fault.status)
+    if found.outcome != "accepted":
+        what, advice = REMEDIES.get(found.name, ("it can't be done", "compare it with the page"))
+        said = f"The ledger would refuse it, {found.name}: {what}; {advice}."
+        return show_form(asked, words, said, HTTPStatus.CONFLICT)
+    page = make_context(asked).render(
+        "question.html",
+        f"{words.word.capitalize()} this event?",
+        find_calendar("UTC"),
+        words=words,
+        site=found.site,
+        meaning=MEANINGS[words.word],
+        columns=CHANGES,
+        rows=found.changes,
+        hidden=[*words._asdict().items(), ("token", asked.make_token("operate", *words))],
+    )
+    return HTMLResponse(page)
+
+
+@open_view(OPERATOR)
+def do_deed(asked: Request) -> Response:
+    """Does what was asked again, and shows the ledger's answer."""
+    words = read_words(dict(asked.fields)).check()
+    number = asked.check_token("operate", *words)
+    found = find_preview(asked, words)
+    deed = Deed(
+        words.word,
+        words.station,
+        words.transaction,
+        int(words.number),
+        asked.operator.name,
+        words.why,
+        datetime.now(timezone.utc),
+        f"web {number}",
+    )
+    answer = settle(asked.store, [deed])[0]
+    who = asked.desk.find_address(asked.http), asked.operator.name
+    log.info("%s, %s: %s: %s %s", *who, words.write(), answer.outcome, answer.name)
+    transaction = words.transaction.lower()
+    said = answer.outcome if answer.outcome == "accepted" else f"{answer.outcome} {answer.name}"
+    page: Markup = make_context(asked).render(
+        "answer.html",
+        "Answer",
+        find_calendar("UTC"),
+        line=words.write(),
+        answer=said,
+        session=LINKS.session(found.site, words.station, transaction),
+        site=LINKS.site(found.site),
+    )
+    return HTMLResponse(page)

@@ -1,0 +1,11 @@
+"""Names of files and folders that writers make."""
+
+import re
+
+# What the name of a file or a folder has as it is; another character is written by its number.
+UNSAFE = re.compile(r"[^A-Za-z0-9_-]")
+
+
+def name_file(text: str) -> str:
+    """Names a file or a folder by a name of a site, a station or a transaction."""
+    return UNSAFE.sub(lambda one: f"%{ord(one[0]):02X}", text)

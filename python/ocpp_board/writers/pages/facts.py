@@ -1,0 +1,179 @@
+"""What pages show, as the views of the store have it."""
+
+from datetime import datetime
+from typing import NamedTuple
+
+from ocpp_board.energies import Flow
+
+
+class Site(NamedTuple):
+    """A site and its rules."""
+
+    name: str
+    zone: str = "UTC"
+    period: int = 900
+    reading_order: str = "moment"
+    settle: str = "even"
+
+
+class Totals(NamedTuple):
+    """The figures of a site or a station."""
+
+    transactions: int = 0
+    complete: int = 0
+    events: int = 0
+    voided: int = 0
+    missing: int = 0
+    flow: Flow = Flow()
+
+    def plus(self, other: "Totals") -> "Totals":
+        """Both together."""
+        return Totals(
+            self.transactions + other.transactions,
+            self.complete + other.complete,
+            self.events + other.events,
+            self.voided + other.voided,
+            self.missing + other.missing,
+            self.flow.plus(other.flow),
+        )
+
+
+class Period(NamedTuple):
+    """A settlement period of a site or a station."""
+
+    start: datetime
+    seconds: int
+    flow: Flow
+    measured: bool = True
+    numbers_missing: bool = False
+
+    def plus(self, other: "Period") -> "Period":
+        """Both together."""
+        measured = self.measured and other.measured
+        missing = self.numbers_missing or other.numbers_missing
+        return Period(self.start, self.seconds, self.flow.plus(other.flow), measured, missing)
+
+
+class Found(NamedTuple):
+    """A finding. A finding of a station has no transaction."""
+
+    station: str
+    transaction_id: str
+    kind: str
+    times: int
+    first_at: datetime | None
+    detail: str
+
+
+class SessionFacts(NamedTuple):
+    """A transaction as the store has it."""
+
+    station: str
+    transaction_id: str
+    site: str
+    sent_id: str
+    evse: int
+    events: int
+    first_number: int
+    last_number: int
+    complete: bool
+    missing: int
+    gaps: tuple[tuple[int, int], ...]
+    flow: Flow
+    state: str
+    began: datetime | None
+    ended: datetime | None
+    first_at: datetime | None
+    last_at: datetime | None
+    registers: tuple[int, int] | None
+    export_registers: tuple[int, int] | None
+    stopped_reason: str
+    token: str
+    token_type: str
+    holes: tuple[tuple[datetime, datetime], ...] = ()
+
+    @property
+    def seconds(self) -> float | None:
+        """How long it was, where its start and its end are known."""
+        if self.began is None or self.ended is None:
+            return None
+        return (self.ended - self.began).total_seconds()
+
+
+class SessionLine(NamedTuple):
+    """A line of a transaction that changed something."""
+
+    number: int
+    received: datetime | None
+    text: str
+    who: str
+    why: str
+    origin: str
+
+
+class AnsweredDeed(NamedTuple):
+    """An operator's line with its answer."""
+
+    station: str
+    transaction_id: str
+    number: int
+    word: str
+    who: str
+    why: str
+    at: datetime | None
+    outcome: str
+    name: str
+
+
+class RefusedText(NamedTuple):
+    """What came and changed nothing, with its cause and what to do; the same again is counted."""
+
+    station: str
+    transaction_id: str
+    number: str
+    cause: str
+    what: str
+    advice: str
+    times: int
+    first_at: datetime | None
+    last_at: datetime | None
+
+
+class Lack(NamedTuple):
+    """A session that is not complete: its state, how many numbers are missing, and when it began."""
+
+    station: str
+    transaction_id: str
+    state: str
+    missing: int
+    first_at: datetime | None
+
+
+class Trouble(NamedTuple):
+    """A problem of a station: its name, in how many sessions it is, and how often."""
+
+    name: str
+    sessions: int
+    times: int
+
+
+class Worst(NamedTuple):
+    """A session with troubles: how grave these are (0: a number is wrong), when it began, and its findings."""
+
+    grave: int
+    moment: float
+    station: str
+    transaction_id: str
+    findings: tuple[Found, ...]
+
+
+class StationSummary(NamedTuple):
+    """What a site's page shows of a station. `worst`: its sessions with troubles, the gravest and then the latest
+    first; `found`: all its findings; `doubtful`: how many sessions have some."""
+
+    name: str
+    totals: Totals = Totals()
+    troubles: tuple[Trouble, ...] = ()
+    worst: tuple[Worst, ...] = ()
+    doubtful: int = 0
+    found: tuple[Found, ...] = ()

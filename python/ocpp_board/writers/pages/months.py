@@ -1,0 +1,135 @@
+"""A month as a heat map of its days by hours with a bar for each day, and a week as the bars of its hours."""
+
+from collections.abc import Iterable, Iterator, Sequence
+from datetime import date, datetime, timedelta
+from itertools import groupby
+
+from markupsafe import Markup
+
+from ocpp_board.energies import Flow, kwh, sum_of
+from ocpp_board.writers.calendar import Calendar
+from ocpp_board.writers.pages.cells import HOUR, write_kw
+from ocpp_board.writers.pages.facts import Period
+from ocpp_board.writers.pages.pictures import (
+    BOTTOM,
+    PICTURE,
+    Bar,
+    Scale,
+    Text,
+    draw_bars,
+    draw_lines,
+    shorten,
+)
+from ocpp_board.writers.pages.render import render
+
+# Shades of a heat map, and seconds of a unit of a week's picture.
+SHADES, UNIT = 5, 300
+# The height of a day in a heat map; hours, and units of its width that are between them and the bars, and of the bars.
+ROW, HOURS, SPACE, BARS = 15, 24, 1, 7
+
+
+def group_weeks(days: Iterable[date]) -> list[tuple[date, list[date]]]:
+    """Groups days by weeks, each week by its Monday."""
+    weeks = groupby(days, lambda day: day - timedelta(days=day.weekday()))
+    return [(week, list(some)) for week, some in weeks]
+
+
+def join_hours(periods: Iterable[Period]) -> list[Period]:
+    """Joins periods to the hours in which they begin."""
+    found: dict[datetime, list[Flow]] = {}
+    for p in periods:
+        found.setdefault(p.start.replace(minute=0), []).append(p.flow)
+    return [Period(start, HOUR, sum_of(flows)) for start, flows in sorted(found.items())]
+
+
+def place_hours(hours: Iterable[Period], calendar: Calendar) -> dict[tuple[date, int], Flow]:
+    """Finds the day and the hour of the day of hours; one that comes twice is one."""
+    found: dict[tuple[date, int], Flow] = {}
+    for p in hours:
+        local = calendar.local(p.start)
+        key = local.date(), local.hour
+        found[key] = found[key].plus(p.flow) if key in found else p.flow
+    return found
+
+
+def choose_shade(mwh: int, most: int) -> str:
+    """Chooses the class of a cell: the darker, the more; what was fed back has shades of its own."""
+    place = min(SHADES, 1 + abs(mwh) * SHADES // max(most, 1))
+    return f"heat {'fed' if mwh < 0 else 'heat'}{place}"
+
+
+def draw_cell(kind: str, x: int, y: int, width: int | str, height: int, said: str) -> str:
+    """Draws a cell or a bar of a heat map, which shows its value to a pointer."""
+    place = f'x="{x}" y="{y}" width="{width}" height="{height}"'
+    return f'<rect class="{kind}" {place}><title>{said}</title></rect>'
+
+
+def draw_month(
+    label: str, days: Sequence[date], periods: Iterable[Period], calendar: Calendar
+) -> Markup:
+    """Draws days by hours, the stronger the more energy, with a bar for each day. Each has its value. `periods`: hours
+    of these days."""
+    hours = place_hours(periods, calendar)
+    nets = dict.fromkeys(days, 0)
+    for (day, _), each in hours.items():
+        nets[day] += each.net
+    most = max((abs(flow.net) for flow in hours.values()), default=0)
+    longest = max((abs(net) for net in nets.values()), default=0)
+    height, wide = ROW * len(days), HOURS + SPACE + BARS
+
+    def cells() -> Iterator[str]:
+        for y, day in zip(range(0, height, ROW), days):
+            for hour in range(HOURS):
+                flow = hours.get((day, hour))
+                if flow and flow.net:
+                    said = f"{day:%a} {day} {hour:02}:00: {kwh(flow.net)} kWh"
+                    yield draw_cell(choose_shade(flow.net, most), hour, y, 1, ROW - 1, said)
+            if net := nets[day]:
+                width, kind = shorten(BARS * abs(net) / longest), "out" if net < 0 else "there"
+                said = f"{day:%a} {day}: {kwh(net)} kWh"
+                yield draw_cell(kind, HOURS + SPACE, y + 2, width, ROW - 4, said)
+
+    texts = [Text(f"{shorten(100 * hour / wide)}%", 12, f"{hour:02}:00") for hour in (0, 6, 12, 18)]
+    texts.append(Text("100%", 12, "Day", "end"))
+    for row, day in enumerate(days):
+        texts.append(Text("-5", 18 + row * ROW + 11, f"{day:%a} {day.day}", "end"))
+    texts.append(Text("0", height + 32, f"Full shade: {kwh(most)} kWh an hour"))
+    texts.append(Text("100%", height + 32, f"Longest: {kwh(longest)} kWh", "end"))
+    return render(
+        "picture.html",
+        label=label,
+        width=wide,
+        height=height + 36,
+        drawn=height,
+        top=18,
+        shapes=Markup("".join(cells())),
+        texts=texts,
+    )
+
+
+def draw_week(
+    label: str, monday: date, periods: Sequence[Period], scale: Scale, calendar: Calendar
+) -> Markup:
+    """Draws the hours of a week as bars."""
+    begin = calendar.begin(monday)
+
+    def place(at: datetime) -> float:
+        return (at - begin).total_seconds() / UNIT
+
+    ends = [place(calendar.begin(monday + timedelta(days=n))) for n in range(8)]
+    width = round(ends[-1])
+
+    def make_bar(p: Period) -> Bar:
+        when = f"{calendar.day(p.start):%a} {calendar.label(p.start)}"
+        said = f"{when}: {kwh(p.flow.net)} kWh, {write_kw(p.flow.net, HOUR)} kW"
+        return Bar(round(place(p.start)), p.seconds // UNIT, said, p)
+
+    days = "".join(f"M{round(end)} {Scale.TOP}V{BOTTOM + 5}" for end in ends)
+    below = list[Text]()
+    for number, end in enumerate(ends[:-1]):
+        day = monday + timedelta(days=number)
+        below.append(
+            Text(f"{shorten(100 * (end + 36) / width)}%", PICTURE - 3, f"{day:%a} {day.day}")
+        )
+    grid = [draw_lines(scale, width) + days]
+    return draw_bars(label, width, scale, grid, list(map(make_bar, periods)), below)

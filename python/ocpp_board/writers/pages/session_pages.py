@@ -1,0 +1,229 @@
+"""The page of a transaction: its figures, each message with its answer, who did what and why, and its lines."""
+
+import json
+from collections.abc import Iterator, Sequence
+from datetime import datetime, timezone
+from typing import NamedTuple
+
+from markupsafe import Markup
+
+from ocpp_board.energies import kwh
+from ocpp_board.messages.transactions import Event, event_of
+from ocpp_board.writers.calendar import Calendar
+from ocpp_board.writers.pages.cells import (
+    MARK,
+    UNKNOWN,
+    Figure,
+    TableRow,
+    link,
+    make_columns,
+    name_flows,
+    wrap_time,
+    write_duration,
+    write_flow,
+    write_ranges,
+)
+from ocpp_board.writers.pages.context import Context
+from ocpp_board.writers.pages.facts import (
+    AnsweredDeed,
+    Found,
+    RefusedText,
+    SessionFacts,
+    SessionLine,
+    Site,
+)
+from ocpp_board.writers.pages.kinds import explain
+from ocpp_board.writers.pages.sessions import write_finding
+from ocpp_board.writers.tokens import NONE, hide_tokens, write_token
+
+# Lines, refusals and readings that a page shows, and characters of the lines that it has.
+MOST_LINES, MOST_REFUSED, MOST_READINGS, MOST_CHARACTERS = 600, 200, 20, 90_000
+COLUMNS = make_columns("Event", " Its time", " Received", " Readings, kWh", " Answer")
+DEEDS = make_columns("When", " Who", " What", " Why", " Answer")
+DECODER = json.JSONDecoder(parse_int=str, parse_float=str)
+
+
+class Came(NamedTuple):
+    """A line of a transaction: the event that it delivers, or the number of the event that it voids, restores or
+    erases."""
+
+    line: SessionLine
+    word: str
+    number: int
+    event: Event | None
+
+
+def read_line(line: SessionLine) -> Came:
+    """Reads a line."""
+    word, _, rest = line.text.partition(" ")
+    if word != "deliver":
+        return Came(line, word, int(rest.rpartition(" ")[2]), None)
+    payload = DECODER.decode(rest.partition(" ")[2])[3]
+    event = event_of(payload, line.received, line.number)
+    return Came(line, word, event.number, event)
+
+
+def read_span(lines: Sequence[SessionLine]) -> list[datetime]:
+    """Reads the first and the last moment of what lines deliver; none where they deliver nothing."""
+    events = (one.event for one in map(read_line, lines) if one.event)
+    moments = [event.at for event in events if event.at is not None]
+    ends = (min(moments), max(moments)) if moments else ()
+    return [datetime.fromtimestamp(at, timezone.utc) for at in ends]
+
+
+def make_figures(session: SessionFacts, calendar: Calendar, tokens: str) -> list[Figure]:
+    """Makes the figures of a transaction."""
+    exports = bool(session.flow.export_up or session.flow.export_down)
+    cells = [
+        (head, f"{cell} kWh")
+        for head, cell in zip(name_flows(exports), write_flow(session.flow, exports))
+    ]
+    cells.append(("EVSE", str(session.evse) if session.evse else "not named"))
+    if session.gaps:
+        cells.append(("Missing numbers", write_ranges(session.gaps)))
+    for name, at in (("Start", session.began), ("End", session.ended)):
+        cells.append((name, calendar.second(at) if at else UNKNOWN))
+    cells.append(("Duration", write_duration(session.seconds) or UNKNOWN))
+    for name, read in (
+        ("Register", session.registers),
+        ("Export register", session.export_registers),
+    ):
+        if read:
+            cells.append((name, f"{kwh(read[0])} to {kwh(read[1])} kWh"))
+    cells.append(("Stopped", session.stopped_reason or UNKNOWN))
+    if tokens != NONE and session.token:
+        cells.append(("Token", f"{write_token(session.token, tokens)} {session.token_type}"))
+    return [(name, cell, False) for name, cell in cells]
+
+
+def make_rows(
+    came: Sequence[Came], refused: Sequence[RefusedText], calendar: Calendar
+) -> Iterator[TableRow]:
+    """Makes the rows of what came, in the order in which it was accepted; behind it what was refused."""
+    ends = find_ends(came)
+    for one in came:
+        if one.event is None:
+            continue
+        end = ends.get(one.line.number)
+        answer = f"accepted; {write_end(end)}" if end else "accepted"
+        yield TableRow([*write_event(one.event, one.line, calendar), answer], MARK if end else "")
+    for text in refused:
+        yield TableRow(write_refused(text, calendar), MARK)
+
+
+def write_end(end: Came) -> str:
+    """Writes who voided or erased an event, and why."""
+    done = {"void": "voided", "erase": "erased"}.get(end.word, end.word)
+    return f"{done} by {end.line.who or 'an operator'}" + (
+        f": {end.line.why}" if end.line.why else ""
+    )
+
+
+def find_ends(came: Sequence[Came]) -> dict[int, Came]:
+    """Finds the events that don't count any more, by the numbers of their lines, each with the line that did it."""
+    ends, delivered = dict[int, Came](), dict[int, int]()
+    for one in came:
+        if one.event is not None:
+            delivered[one.number] = one.line.number
+            continue
+        if (place := delivered.get(one.number)) is None:
+            continue
+        if one.word == "restore":
+            ends.pop(place, None)
+        else:
+            ends[place] = one
+    return ends
+
+
+def write_event(event: Event, line: SessionLine, calendar: Calendar) -> list[str]:
+    """Writes the cells of an event before its answer."""
+    some = [
+        f"{kwh(one.mwh)}{' exported' if one.is_export else ''}"
+        for one in event.readings[:MOST_READINGS]
+    ]
+    more = len(event.readings) - len(some)
+    read = ", ".join(some) + (f" and {more:,} more" if more else "")
+    at = wrap_time(calendar.write_seconds(event.at)) if event.at is not None else UNKNOWN
+    received = wrap_time(calendar.second(line.received)) if line.received else UNKNOWN
+    return [f"{event.number} {event.kind}", at, received, read or UNKNOWN]
+
+
+def write_refused(one: RefusedText, calendar: Calendar) -> list[str]:
+    """Writes the cells of a message that changed nothing."""
+    times = f", {one.times:,} times" if one.times > 1 else ""
+    at = wrap_time(calendar.second(one.first_at)) if one.first_at else UNKNOWN
+    said = "; ".join(filter(None, [one.what, one.advice]))
+    answer = f"refused: {one.cause}{times}" + (f": {said}" if said else "")
+    return [one.number or UNKNOWN, UNKNOWN, at, UNKNOWN, answer]
+
+
+def make_deed_row(deed: AnsweredDeed, calendar: Calendar) -> TableRow:
+    """Makes the row of an operator's line about a transaction."""
+    at = wrap_time(calendar.second(deed.at)) if deed.at else UNKNOWN
+    answer = deed.outcome if deed.outcome == "accepted" else f"{deed.outcome}: {deed.name}"
+    cells = [at, deed.who or UNKNOWN, f"{deed.word} {deed.number}", deed.why or UNKNOWN, answer]
+    return TableRow(cells, "" if deed.outcome == "accepted" else MARK)
+
+
+def show_lines(lines: Sequence[SessionLine], tokens: str) -> list[str]:
+    """The lines that a page has room for, with tokens as they are to be shown."""
+    found, size = list[str](), 0
+    for line in lines:
+        text = hide_tokens(line.text, tokens)
+        size += len(text)
+        if size > MOST_CHARACTERS:
+            break
+        found.append(text)
+    return found
+
+
+def make_session_page(
+    context: Context, site: Site, session: SessionFacts, findings: Sequence[Found]
+) -> Markup:
+    """Makes the page of a transaction."""
+    reader, calendar = context.reader, context.calendar(site)
+    lines = reader.lines(session.station, session.transaction_id, MOST_LINES)
+    came = [read_line(line) for line in lines]
+    refused = reader.session_refused(session, MOST_REFUSED)
+    deeds = reader.session_deeds(session)
+    shown = show_lines(lines, context.options.tokens)
+    first = lines[0].number if lines else 1
+    caption = "What came, in the order in which it was accepted"
+    if first > 1:
+        caption += f", from line {first:,} of its script on"
+    return context.render(
+        "session.html",
+        f"Session {session.sent_id}",
+        calendar,
+        context.lead_up(site, session.station),
+        state=session.state[:1].upper() + session.state[1:] or "No event counts",
+        figures=make_figures(session, calendar, context.options.tokens),
+        doubts=[write_finding(one) for one in findings],
+        meanings=dict.fromkeys(explain(one.kind) for one in findings),
+        deeds_href=make_deed_links(context, session),
+        days=link_days(context, site, session),
+        caption=caption,
+        columns=COLUMNS,
+        rows=list(make_rows(came, refused, calendar)),
+        deed_columns=DEEDS,
+        deeds=[make_deed_row(deed, calendar) for deed in deeds],
+        lines=shown,
+        left=len(lines) - len(shown) + first - 1,
+        has_masks=context.options.tokens == NONE,
+    )
+
+
+def make_deed_links(context: Context, session: SessionFacts) -> str:
+    """The address at which an operator voids events of a transaction; empty where pages are files."""
+    return context.links.operate(session.site, session.station, session.transaction_id)
+
+
+def link_days(context: Context, site: Site, session: SessionFacts) -> list[Markup]:
+    """Links to the first and the last day of a transaction."""
+    calendar = context.calendar(site)
+    days = {calendar.day(at) for at in (session.first_at, session.last_at) if at}
+    return [
+        link(context.links.day(site.name, session.station, day), str(day))
+        for day in sorted(days)
+        if context.is_shown(day)
+    ]
