@@ -2,9 +2,9 @@
 
     tests/one library_scripts FOLDER [--scripts 300]
 
-Each has some kilobytes, ends anywhere, and has new events of several stations, repeats, late and conflicting ones, texts
-with faults, an operator's lines and questions (tests/drawn_scripts.py). In every other script `deliver` is in place of
-`msg`, and it asks for what some texts ask for.
+Each has some kilobytes, ends anywhere, and has new events of several stations, repeats, late and conflicting ones,
+texts with faults, an operator's lines and questions (tests/drawn_scripts.py). In every other script `deliver` is in
+place of `msg`, and it asks for what some texts ask for.
 """
 
 import argparse
