@@ -64,10 +64,10 @@ def test_paths_are_there() -> None:
     assert not {(page, path) for page, path in paths if not (TOP / path.rstrip("./")).exists()}
 
 
-def test_commands_of_readme_and_examples_take_the_program_that_readme_builds() -> None:
-    readme = TOP / "README.md"
-    texts = [page.read_text("utf-8") for page in (readme, *TOP.glob("examples/*/*.md"))]
-    built = BUILD.findall(texts[0])
+def test_commands_of_readme_and_examples_take_the_program_that_start_builds() -> None:
+    pages = (TOP / "README.md", *TOP.glob("examples/*/*.md"))
+    texts = [page.read_text("utf-8") for page in pages]
+    built = BUILD.findall((TOP / "start").read_text("utf-8"))
     taken = {
         match
         for text in texts
@@ -75,6 +75,7 @@ def test_commands_of_readme_and_examples_take_the_program_that_readme_builds() -
         for match in PROGRAM.findall(line)
     }
     assert len(built) == 1 and taken == {(built[0], built[0])}
+    assert "./start" in texts[0]
 
 
 def test_paragraphs_are_short() -> None:
