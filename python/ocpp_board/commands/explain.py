@@ -17,14 +17,20 @@ To distinguish the answers, it adds lines of its own: `mark` after lines that ma
 transactions after boards. They change nothing. It reports the first mistakes of a kind, and counts the others.
 """
 
+import argparse
 import difflib
 import re
-from collections.abc import Iterable, Sequence
-from dataclasses import dataclass
-from typing import IO
+from collections.abc import Callable, Iterable, Iterator
+from io import BytesIO
+from typing import NamedTuple
 
+from ocpp_board.commands.options import add_program, choose_program
+from ocpp_board.commands.script_hints import NearLimits, RepeatHints
 from ocpp_board.escapes import shown
+from ocpp_board.ledger.answers import AnswerReader
+from ocpp_board.ledger.program import Program, find_program
 from ocpp_board.limits import (
+    DEFAULT_LIMITS,
     DEFAULT_READINGS,
     GREATEST_LIMITS,
     LONGEST_LINE,
@@ -32,14 +38,9 @@ from ocpp_board.limits import (
     MOST_STATIONS,
 )
 from ocpp_board.messages.message_faults import REMEDIES, message_fault
-from ocpp_board.progress import Progress
-from ocpp_board.replay.answered import Answered, Line, Messages, ScriptReplay
-from ocpp_board.replay.line_faults import NAMES, Said, bad_line, words_of
-from ocpp_board.replay.near_limits import NearLimits
-from ocpp_board.reports.repeat_hints import RepeatHints
-from ocpp_board.sources import is_gzip, opened
-from ocpp_board.statuses import Status, ended
-from ocpp_board.words import add_program, parsed, parser_of
+from ocpp_board.sources.files import is_gzip, open_input
+from ocpp_board.sources.lines import NAMES, Said, explain_line, split_words
+from ocpp_board.statuses import Status
 
 ENDING = """\
 Exit status: 0 if there is nothing to report; 1 if something was
@@ -55,16 +56,20 @@ class Plan:
     def __init__(self) -> None:
         self.sites: dict[str, int] = {}
         self.stations: dict[str, tuple[str, int]] = {}
+        # What stations keep, and what the next ones will: as many as DEFAULT_LIMITS has, in this order.
+        self.limits: dict[str, tuple[int, ...]] = {}
+        self.next_limits = tuple(DEFAULT_LIMITS.values())
         self.readings, self.limit = 0, DEFAULT_READINGS
         self.opened: tuple[int, str] | None = None
 
     def take(self, number: int, words: list[str]) -> None:
         """A line that was no fault."""
         if words[0] == "limits":
-            self.limit = int(words[3])
+            self.limit, self.next_limits = int(words[3]), tuple(map(int, words[1:]))
         elif words[0] == "station":
             self.sites.setdefault(words[1], number)
             self.stations[words[2]] = words[1], number
+            self.limits[words[2]] = self.next_limits
             self.readings += self.limit
         elif words[0] not in ("now", "mark", "period", "order", "settle") and self.opened is None:
             self.opened = number, " ".join(words[:2])
@@ -112,22 +117,86 @@ class Plan:
         return self.opened[0] if self.opened else 1
 
 
-class Run:
-    """A replay that runs over a script, and what is wrong with it."""
+class Line(NamedTuple):
+    """A line of a script that was answered: its number, from 1, and its bytes without what ends it; only the beginning
+    of one that is too long."""
 
-    def __init__(self, program: str, script: IO[bytes], name: str = "") -> None:
+    number: int
+    line: bytes
+
+
+class Answered(NamedTuple):
+    """A line with what the program wrote of it, which is empty where it wrote nothing."""
+
+    line: Line
+    text: list[str]
+
+
+def end_line(line: bytes) -> bytes:
+    """What a last line needs before another one: without a line feed it is a line of its own."""
+    return b"" if line.endswith(b"\n") else b"\r\n" if line.endswith(b"\r") else b"\n"
+
+
+class Replay:
+    """A script, and what the program writes of each line. To know which answer is of which line, a line `mark` goes
+    behind each that may write nothing."""
+
+    SILENT = (b"limits", b"station", b"period", b"order", b"settle", b"now")
+    MARK = b"mark answered\n"
+
+    def __init__(self, program: Program, script: bytes) -> None:
+        self.program, self.script = program, script
+        self.count = script.count(b"\n") + (not script.endswith(b"\n") if script else 0)
+
+    def answer(self, behind: dict[int, bytes] | None = None) -> Iterator[Answered]:
+        """Each line that is answered. `behind`: lines that are asked behind others by their numbers; they have the
+        number 0. Raises ProgramError."""
+        sent, out = list[tuple[Line, bool]](), list[bytes]()
+        for number, line in enumerate(BytesIO(self.script), 1):
+            self.send(sent, out, number, line)
+            for one in BytesIO((behind or {}).get(number, b"")):
+                out.append(end_line(out[-1]))
+                self.send(sent, out, 0, one)
+        reader = AnswerReader(self.program.answer(b"".join(out)))
+        for asked, is_marked in sent:
+            text = reader.read_whole()
+            if is_marked:
+                texts = list[str]()
+                while text != ["mark answered"]:
+                    texts += text
+                    text = reader.read_whole()
+                text = texts
+            yield Answered(asked, text)
+
+    def send(
+        self, sent: list[tuple[Line, bool]], out: list[bytes], number: int, line: bytes
+    ) -> None:
+        """Adds a line to what is sent, with a mark where it may write nothing."""
+        bare = line[:-1].removesuffix(b"\r") if line.endswith(b"\n") else line
+        out.append(line)
+        is_long = len(line.removesuffix(b"\n")) > LONGEST_LINE
+        if not is_long and (not bare or bare.startswith(b"#")):
+            return
+        is_marked = bare.partition(b" ")[0] in self.SILENT
+        sent.append((Line(number, bare[: LONGEST_LINE + 1]), is_marked))
+        if is_marked:
+            out += [end_line(line), self.MARK]
+
+
+class Run:
+    """A script that is replayed, and what is wrong with it."""
+
+    def __init__(self, program: Program, script: bytes, name: str = "") -> None:
         """`name`: that of the script, where it is a file."""
         self.name, self.where = (f"{name}: ", f"{name} line") if name else ("", "line")
-        self.replay, self.plan = ScriptReplay(program, script, asks=True), Plan()
-        self.messages = Messages()
-        self.near = NearLimits(self.messages.limits, self.report_limit)
-        self.repeats = RepeatHints(self.report_hint)
-        self.progress = Progress(script)
+        self.replay, self.plan = Replay(program, script), Plan()
+        self.near = NearLimits(self.plan.limits)
+        self.repeats = RepeatHints()
         self.counts: dict[str, int] = {}
 
     def explain(self, line: Line, text: str) -> None:
         """Reports what is wrong with a line, if something is."""
-        words = words_of(line.line.decode("utf-8", "replace"))
+        words = split_words(line.line.decode("utf-8", "replace"))
         if text.startswith("fault "):
             name = text.removeprefix("fault ")
             if name in ("UnknownStation", "UnknownSite", "UnknownTransaction"):
@@ -153,7 +222,7 @@ class Run:
         if name == "LineTooLong":
             return f"the line has more than {LONGEST_LINE:,} bytes", "a shorter line"
         if name == "BadLine":
-            return bad_line(line.line, line.number)
+            return explain_line(line.line, line.number)
         if name == "DeclaredLate" and plan.opened:
             return (
                 f"line {plan.opened[0]} ({shown(plan.opened[1])}) needed the ledgers, and what they keep is fixed "
@@ -204,55 +273,39 @@ class Run:
         )
         self.counts[kind] = self.counts.get(kind, 0) + 1
         if self.counts[kind] <= MOST_REPORTED:
-            self.progress.end()
             print(
                 f"{self.where} {line.number}: {shown(line.line.decode('utf-8', 'replace'), SHOWN)[1:-1]}\n"
                 f"  {kind}: {cause}\n  remedy: {remedy}"
             )
 
-    def report_limit(self, answered: Answered, said: str, remedy: str) -> None:
-        """Reports that a station comes near to its limits, which is no mistake yet."""
-        self.progress.end()
-        print(f"{self.where} {answered.number}: {said}\n  remedy: {remedy}")
-
-    def report_hint(self, line: Line, said: str, remedy: str) -> None:
-        """Reports what a line's board shows, which is no mistake of the script."""
-        self.progress.end()
-        print(f"{self.where} {line.number}: {said}\n  remedy: {remedy}")
+    def hint(self, number: int, said: str, remedy: str) -> None:
+        """Reports what is no mistake of a line."""
+        print(f"{self.where} {number}: {said}\n  remedy: {remedy}")
 
     def run(self) -> int:
-        """Reports all that is wrong, and returns the exit status. Raises OSError."""
-        for line, text in self.replay.answers:
-            self.progress.report(line.number, len(line.line) + 1)
-            if message := self.messages.take(line, text):
-                self.near.take(message)
-                if message.is_accepted and self.plan.opened:
+        """Reports all that is wrong, and returns the exit status. Raises ProgramError."""
+        answers = list(self.replay.answer())
+        hints = self.repeats.find(answers, self.replay.answer)
+        for line, text in answers:
+            first = text[0] if text else ""
+            if line.line.startswith(b"msg ") and first.startswith("[3,"):
+                _, station, message = line.line.decode("utf-8", "replace").split(" ", 2)
+                for said, remedy in self.near.take(station, message):
+                    self.hint(line.number, said, remedy)
+                if self.plan.opened:
                     continue
-            if line.line.startswith(b"board "):
-                self.repeats.look(line, text, self.replay.ask)
-            self.explain(line, text.partition(b"\n")[0].decode("utf-8", "replace"))
-        self.progress.end()
-        status, said = self.replay.ended()
+            if line.number in hints:
+                self.hint(line.number, *hints[line.number])
+            self.explain(line, first)
         for kind, count in self.counts.items():
             if count > MOST_REPORTED:
                 print(f"{self.name}and {count - MOST_REPORTED:,} more lines: {kind}")
-        if status:
-            print(f"{self.name}the replay ended with status {status}: {said}")
-        print(f"{self.name}lines: {self.replay.lines:,}, reported: {sum(self.counts.values()):,}")
-        return Status.REPORTED if self.counts or status else Status.DONE
+        print(f"{self.name}lines: {self.replay.count:,}, reported: {sum(self.counts.values()):,}")
+        return Status.REPORTED if self.counts else Status.DONE
 
 
-@dataclass(frozen=True)
-class Options:
-    """What the words ask for: a script, or - for standard input, and the program."""
-
-    script: str
-    program: str
-
-
-def arguments(argv: Sequence[str], prog: str) -> Options:
-    """What the words ask for. Wrong ones end the program with status 2."""
-    parser = parser_of(prog, __doc__, ENDING)
+def add_words(parser: argparse.ArgumentParser) -> None:
+    """The words of the command."""
     parser.add_argument(
         "script",
         nargs="?",
@@ -261,22 +314,15 @@ def arguments(argv: Sequence[str], prog: str) -> Options:
         help="the script, standard input if absent or -",
     )
     add_program(parser)
-    words = parsed(parser, argv)
-    return Options(words.script, words.program)
 
 
-def explain(options: Options) -> int:
+def run(words: argparse.Namespace) -> int:
     """Reports what is wrong with a script, and gives the exit status."""
-    name = "" if options.script == "-" else options.script
-    with opened(options.script) as script:
+    choose_program(words.program)
+    name = "" if words.script == "-" else words.script
+    with open_input(words.script) as script:
         if is_gzip(script):
             print(f"{name} line 1: the script is compressed by gzip".lstrip())
             print("  remedy: gunzip -c SCRIPT | ocpp-board explain")
             return Status.REPORTED
-        return Run(options.program, script, name).run()
-
-
-def main(argv: Sequence[str], prog: str) -> int:
-    """Runs the tool with these words; gives its exit status."""
-    options = arguments(argv, prog)
-    return ended(lambda: explain(options))
+        return Run(find_program(words.program), script.read(), name).run()
