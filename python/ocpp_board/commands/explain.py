@@ -20,7 +20,7 @@ transactions after boards. They change nothing. It reports the first mistakes of
 import argparse
 import difflib
 import re
-from collections.abc import Callable, Iterable, Iterator
+from collections.abc import Iterable, Iterator
 from io import BytesIO
 from typing import NamedTuple
 
