@@ -48,8 +48,6 @@ PLACE = re.compile(r"(?!.*://).*:[0-9]+")
 TEXTS_AT_ONCE, BYTES_AT_ONCE = 2_000, 1_048_576
 # Transactions that are computed again at once where rules change.
 SESSIONS_AT_ONCE = 2_000
-# Strays of a station that are kept; further ones are counted only.
-MOST_STRAYS = 100_000
 EPOCH = datetime(1970, 1, 1, tzinfo=timezone.utc)
 
 

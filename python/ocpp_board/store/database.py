@@ -41,7 +41,7 @@ PATIENCE = 60
 MARK = re.compile(r"/\*(sqlite|postgresql) (.*?)\*/", re.DOTALL)
 # A text in quotes, in which nothing is a comment, or a comment.
 COMMENT = re.compile(r"('(?:[^'])*')|--[^\n]*")
-PARAMETER = re.compile(r"(?<![:\w]):([a-z_]+)")
+PARAMETER = re.compile(r"('[^']*')|(?<![:\w]):([a-z_][a-z0-9_]*)")
 PARTITIONED = re.compile(r"create table (\w+) \([^;]*partition by hash", re.DOTALL)
 # Columns whose values are moments, days or yes and no, by their names.
 MOMENTS = {"at", "starts", "since", "until", "received", "began", "ended"}
@@ -79,7 +79,7 @@ def choose(text: str, kind: str) -> str:
 @lru_cache(1_024)
 def write_postgresql(statement: str) -> str:
     """A statement with its parameters as psycopg has them."""
-    return PARAMETER.sub(r"%(\1)s", statement.replace("%", "%%"))
+    return PARAMETER.sub(lambda found: found[1] or f"%({found[2]})s", statement.replace("%", "%%"))
 
 
 class Database:
