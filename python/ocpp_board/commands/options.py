@@ -45,7 +45,9 @@ def choose_program(path: str | None) -> None:
     there is none."""
     if path:
         if not (os.path.isfile(path) or shutil.which(path)):
-            raise UsageError(f"there is no program {path}; build it, or leave --program out")
+            raise UsageError(
+                f"{path}: No such file or directory; build the program, or leave --program out"
+            )
         is_library = ".so" in os.path.basename(path)
         os.environ[LIBRARY_NAME] = path if is_library else ""
         os.environ[PROGRAM_NAME] = "" if is_library else path

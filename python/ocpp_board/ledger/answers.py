@@ -213,6 +213,17 @@ class AnswerReader:
             raise ProgramError("the program wrote fewer answers than the script has lines")
         return lines
 
+    def read_whole(self) -> list[str]:
+        """The next answer: one line, or those of a board or list up to its line `end`. Raises ProgramError where there
+        is none."""
+        line = self.read()
+        if not line.startswith(("board ", "events ", "readings ")):
+            return [line]
+        first = self.at - 1
+        while self.lines[self.at - 1] != "end":
+            self.read()
+        return self.lines[first : self.at]
+
     def read_list(self, word: str) -> Iterator[str]:
         """The lines of a board or list, up to its line `end`; none of a fault."""
         line = self.read()
