@@ -4,7 +4,7 @@ import re
 from collections.abc import Iterator
 from pathlib import Path
 
-from ocpp_board.cli import TOOLS
+from ocpp_board.cli import COMMANDS, TOOLS
 
 TOP = Path(__file__).resolve().parents[2]
 # A path from the top of the repository. Patterns and what a build makes are left out.
@@ -88,7 +88,7 @@ def test_paragraphs_are_short() -> None:
 
 
 def test_tools_are_those_of_the_command() -> None:
-    assert not {(page, tool) for page, tool in found(TOOL) if tool not in TOOLS}
+    assert not {(page, tool) for page, tool in found(TOOL) if tool not in {**COMMANDS, **TOOLS}}
 
 
 def unknown_options(module: str, words: str) -> set[str]:
@@ -110,8 +110,8 @@ def test_commands_of_tests_are_there() -> None:
 
 def test_commands_of_the_fleet_name_the_program_that_replays() -> None:
     modules = {
-        name: TOP / f"python/ocpp_board/{tool.module.replace('.', '/')}.py"
-        for name, tool in TOOLS.items()
+        name: TOP / f"python/ocpp_board/{module.replace('.', '/')}.py"
+        for name, (module, _) in TOOLS.items()
     }
     replays = {name for name, path in modules.items() if "add_program(" in path.read_text()}
     texts = ["\n".join(code(page.read_text("utf-8"))).replace("\\\n", " ") for page in pages()]

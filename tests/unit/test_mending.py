@@ -23,7 +23,7 @@ from ocpp_board.logs.mending import (
 from ocpp_board.messages.message_faults import message_fault
 from ocpp_board.replay.ledger import Ledger
 from ocpp_board.commands import tables
-from ocpp_board.statuses import Mistaken, Status
+from ocpp_board.statuses import Status
 from tests.traffic.troubles import FIRST, sound
 from tests.unit.test_ledger import feed_of
 
@@ -216,14 +216,6 @@ def test_live_mends_and_lists(reference: str, tmp_path: Path) -> None:
         assert ledger.mended.count({"A": "north"}, "south") == 0
         ledger.close()
         feed.kept.lock.close()
-
-
-def test_a_site_that_is_not_there_is_a_fault(tmp_path: Path) -> None:
-    row = {"site": "north", "station": "A", "time": "2026-03-01T12:00:00Z", "message": sent(0)}
-    (tmp_path / "log").write_text(json.dumps(row) + "\n")
-    words = ["--mend", "nroth=text-value", str(tmp_path / "log")]
-    with pytest.raises(Mistaken, match="--mend names the site 'nroth'"):
-        log_to_script.convert(log_to_script.arguments(words, "x"))
 
 
 def test_refusals_name_the_option() -> None:

@@ -13,6 +13,8 @@ import pytest
 from ocpp_board import cli, processes, statuses
 from ocpp_board.commands import log_to_script
 from ocpp_board.commands.explain import Plan, Run
+from ocpp_board.errors import UsageError
+from ocpp_board.ledger.program import LIBRARY_NAME, PROGRAM_NAME, ProcessProgram
 from tests.traffic.script import arguments, event, script, unchanging
 from ocpp_board.escapes import csv_cell, from_copy, shown
 from ocpp_board.messages.message_faults import message_fault
@@ -92,22 +94,23 @@ def test_faults_become_statuses(
 
 
 def test_the_tool_is_the_first_word_or_the_name(monkeypatch: pytest.MonkeyPatch) -> None:
-    runs: list[tuple[str, list[str], str]] = []
+    runs: list[tuple[str, list[str]]] = []
 
-    def run(name: str, words: list[str], prog: str) -> int:
-        runs.append((name, list(words), prog))
+    def run(name: str, words: list[str]) -> int:
+        runs.append((name, list(words)))
         return 0
 
-    monkeypatch.setattr(cli, "run", run)
+    monkeypatch.setattr(cli, "run_tool", run)
+    monkeypatch.setattr(cli, "run_command", run)
     cli.main(["tables", "--help"])
     monkeypatch.setattr(sys, "argv", ["/usr/bin/ocpp-board-log-to-script", "x"])
     cli.main()
     monkeypatch.setattr(sys, "argv", ["/usr/bin/ocpp-board", "live", "y"])
     cli.main()
     assert runs == [
-        ("tables", ["--help"], "ocpp-board tables"),
-        ("log-to-script", ["x"], "ocpp-board-log-to-script"),
-        ("live", ["y"], "ocpp-board live"),
+        ("tables", ["--help"]),
+        ("log-to-script", ["log-to-script", "x"]),
+        ("live", ["y"]),
     ]
 
 
@@ -254,18 +257,17 @@ def test_an_order_needs_no_ledgers() -> None:
     assert plan.opened is None
 
 
-def explained(reference: str, folder: Path, lines: list[str]) -> int:
+def explained(reference: str, lines: list[str]) -> int:
     """Explains a script by a replay in plain Python, and gives the status."""
-    (folder / "script").write_text("".join(line + "\n" for line in lines))
-    with open(folder / "script", "rb") as script:
-        return Run(reference, script).run()
+    text = "".join(line + "\n" for line in lines)
+    return Run(ProcessProgram(reference), text.encode()).run()
 
 
 def test_a_fall_that_a_repeat_made_is_hinted_at_once(
-    reference: str, tmp_path: Path, capsys: pytest.CaptureFixture[str]
+    reference: str, capsys: pytest.CaptureFixture[str]
 ) -> None:
     lines = [line for line in repeats.script(2, True) if not line.startswith("order ")]
-    assert explained(reference, tmp_path, [*lines, lines[-1]]) == Status.DONE
+    assert explained(reference, [*lines, lines[-1]]) == Status.DONE
     said = capsys.readouterr().out
     assert said == (
         f"line {len(lines)}: in 6 sessions of site north, such as t1 of all, readings are listed again, and by "
@@ -278,14 +280,14 @@ def test_a_fall_that_a_repeat_made_is_hinted_at_once(
 
 @pytest.mark.parametrize("kind", ["sessions", "repeats"])
 def test_where_nothing_falls_nothing_is_hinted_at(
-    kind: str, reference: str, tmp_path: Path, capsys: pytest.CaptureFixture[str]
+    kind: str, reference: str, capsys: pytest.CaptureFixture[str]
 ) -> None:
-    assert explained(reference, tmp_path, list(repeats.script(2, kind == "repeats"))) == Status.DONE
+    assert explained(reference, list(repeats.script(2, kind == "repeats"))) == Status.DONE
     assert "remedy" not in capsys.readouterr().out
 
 
 def test_a_fall_of_the_meter_alone_is_not_hinted_at(
-    reference: str, tmp_path: Path, capsys: pytest.CaptureFixture[str]
+    reference: str, capsys: pytest.CaptureFixture[str]
 ) -> None:
     """A register that begins anew, and an end that lists the last reading once more."""
     lines = list(repeats.script(1, False))
@@ -295,30 +297,35 @@ def test_a_fall_of_the_meter_alone_is_not_hinted_at(
     payload["meterValue"] *= 2
     text = json.dumps([2, "x", "TransactionEvent", payload])
     lines[lines.index(last)] = f"msg all {text}"
-    assert explained(reference, tmp_path, lines) == Status.DONE
+    assert explained(reference, lines) == Status.DONE
     assert "remedy" not in capsys.readouterr().out
 
 
 def test_what_is_explained_names_the_script(
-    reference: str, tmp_path: Path, capsys: pytest.CaptureFixture[str]
+    reference: str,
+    tmp_path: Path,
+    capsys: pytest.CaptureFixture[str],
+    monkeypatch: pytest.MonkeyPatch,
 ) -> None:
+    for name in (LIBRARY_NAME, PROGRAM_NAME):
+        monkeypatch.setenv(name, "")
     script = tmp_path / "day.script"
     script.write_text("station north A\norder north moments\nenergy A\n")
-    assert cli.run("explain", ["--program", reference, str(script)], "explain") == Status.REPORTED
+    assert cli.main(["explain", "--program", reference, str(script)]) == Status.REPORTED
     assert capsys.readouterr().out == (
         f"{script} line 2: order north moments\n  fault BadLine: 'moments' is no order of readings\n"
         f"  remedy: sequence or moment\n{script}: lines: 3, reported: 1\n"
     )
     script.write_bytes(gzip.compress(b"station north A\n"))
-    assert cli.run("explain", ["--program", reference, str(script)], "explain") == Status.REPORTED
+    assert cli.main(["explain", "--program", reference, str(script)]) == Status.REPORTED
     assert capsys.readouterr().out.startswith(f"{script} line 1: the script is compressed by gzip")
 
 
 def test_faults_of_an_order_are_explained(
-    reference: str, tmp_path: Path, capsys: pytest.CaptureFixture[str]
+    reference: str, capsys: pytest.CaptureFixture[str]
 ) -> None:
     lines = ["station north A", "order north moments", "order south moment", "energy A"]
-    assert explained(reference, tmp_path, [*lines, "order north moment"]) == Status.REPORTED
+    assert explained(reference, [*lines, "order north moment"]) == Status.REPORTED
     assert capsys.readouterr().out == (
         "line 2: order north moments\n  fault BadLine: 'moments' is no order of readings\n"
         "  remedy: sequence or moment\n"
@@ -331,9 +338,7 @@ def test_faults_of_an_order_are_explained(
     )
 
 
-def test_faults_of_a_list_are_explained(
-    reference: str, tmp_path: Path, capsys: pytest.CaptureFixture[str]
-) -> None:
+def test_faults_of_a_list_are_explained(reference: str, capsys: pytest.CaptureFixture[str]) -> None:
     lines = [
         "station north A",
         "mark begun",
@@ -342,7 +347,7 @@ def test_faults_of_a_list_are_explained(
         "events A",
         "mark a b",
     ]
-    assert explained(reference, tmp_path, lines) == Status.REPORTED
+    assert explained(reference, lines) == Status.REPORTED
     assert capsys.readouterr().out == (
         "line 3: events A T1\n  fault UnknownTransaction: station A has no event of transaction 'T1' yet\n"
         "  remedy: ask behind its messages, by the id that they have\n"
@@ -411,8 +416,8 @@ def test_mistakes_name_their_file(tmp_path: Path, capfd: pytest.CaptureFixture[s
     log.write_text("{}\n{}\n")
     text.write_text("tx x\n")
     out = str(tmp_path / "x")
-    assert cli.run("log-to-script", [str(log)], "log-to-script") == Status.REPORTED
-    assert cli.run("tables", ["--out", out, str(text)], "tables") == Status.REPORTED
+    assert cli.main(["log-to-script", str(log)]) == Status.REPORTED
+    assert cli.main(["tables", "--out", out, str(text)]) == Status.REPORTED
     said = capfd.readouterr().err
     assert f"{log} line 1: 'site' is missing (--site-field names another field)\n" in said
     assert f"{log}: the same of 1 more line 2: 'site' is missing" in said
@@ -424,5 +429,5 @@ def test_mistakes_name_their_file(tmp_path: Path, capfd: pytest.CaptureFixture[s
         with pytest.raises(Mistaken, match=f"{packed}: the {name} is compressed by gzip"):
             tables.run(tables.arguments(["--out", out, *some], "tables"))
     words = log_to_script.arguments(["--form", "citrineos-csv", "--site", "n", str(log)], "x")
-    with pytest.raises(Mistaken, match=f"{log} line 1 names no column"):
+    with pytest.raises(UsageError, match=f"{log} line 1 names no column"):
         log_to_script.convert(words)
