@@ -21,6 +21,7 @@ from ocpp_board.ledger.engine import settle
 from ocpp_board.store.database import Database, open_store
 from ocpp_board.web.api import read_description
 from ocpp_board.web.app import make_app
+from ocpp_board.web.deeds import Words, preview
 from ocpp_board.web.desk import Desk, Stores
 from ocpp_board.web.signing import (
     Tries,
@@ -271,6 +272,16 @@ def test_a_deed(web: Web) -> None:
     for word in ("restore", "void", "erase"):
         assert browser.ask("/operate/do", ask_deed(browser, word, 4))[0] == 200
     assert check(web.store)
+
+
+def test_a_deed_beside_a_conflict(web: Web) -> None:
+    """What a void will change of a session with a refused message is what it changes."""
+    transaction = "a94e0d13-2c6b-4f78-b1d5-07e9c3865f20"
+    found = preview(web.store, Words("void", "RV-FAST-01", transaction, "4", "a test"))
+    assert found and found.outcome == "accepted"
+    changes = {row.cells[0]: row.cells[1:] for row in found.changes}
+    assert changes["Events that count"] == ("4", "3") and changes["Missing numbers"][1] == "2 to 4"
+    assert preview(web.store, Words("void", "RV-FAST-01", "none", "4", "a test")) is None
 
 
 @pytest.mark.parametrize(

@@ -14,9 +14,10 @@ from starlette.responses import HTMLResponse, Response
 from ocpp_board.energies import Flow, kwh
 from ocpp_board.ledger.engine import settle
 from ocpp_board.ledger.program import find_program
-from ocpp_board.ledger.rows import Rows, Work, work_out
+from ocpp_board.ledger.rows import DELIVER, Rows, Work, work_out
 from ocpp_board.limits import GREATEST_SEQ_NO, TRANSACTION, is_name
 from ocpp_board.messages.message_faults import REMEDIES
+from ocpp_board.messages.texts import one_line
 from ocpp_board.records import DEEDS, Deed, Line
 from ocpp_board.store.database import Database
 from ocpp_board.store.lines import read_lines, read_refusals
@@ -105,7 +106,8 @@ def preview(store: Database, words: Words) -> Preview | None:
         return None
     lines = next(iter(read_lines(store, [key])))
     refused = next(iter(read_refusals(store, [key])))
-    conflicts = [one.text for one in refused if one.cause == CONFLICT]
+    texts = (one_line(one.text) for one in refused if one.cause == CONFLICT)
+    conflicts = [f"{DELIVER}{key[0]} {text}" for text in texts]
     line = Line(0, f"{words.word} {key[0]} {key[1]} {words.number}")
     works = [
         Work(*key, row.site, rules, lines, new, conflicts, True) for new in (list[Line](), [line])

@@ -124,11 +124,13 @@ class Reader:
         return [row[0] for row in rows]
 
     def site_stations(self, site: str) -> list[str]:
-        """The stations that have transactions at a site, or that the plan has there."""
+        """The stations that have transactions at a site, or that the plan has there, by name."""
         rows = self.store.fetch(
-            "select station from board_station where site = :site order by station", site=site
+            "select station from station where site = :site union "
+            "select distinct station from session where site = :site",
+            site=site,
         )
-        return [row[0] for row in rows]
+        return sorted(row[0] for row in rows)
 
     def station_sites(self, station: str) -> list[str]:
         """The sites that a station has been at."""
@@ -185,14 +187,15 @@ class Reader:
     def day_periods(
         self, site: Site, stations: Sequence[str], begin: datetime, end: datetime
     ) -> dict[str, list[Period]]:
-        """The periods of some stations of a site from one moment to another. Each station is named, so that an index by
-        station and time serves."""
+        """The periods of some stations of a site from one moment to another. Each station is named, so that the index
+        by station and time serves; what is asked of the site is written so that its index, which has all years, does
+        not."""
         found = dict[str, list[Period]]()
         for first in range(0, len(stations), MOST_NAMES):
             names = dict(zip(NAMES, stations[first : first + MOST_NAMES]))
             sql = (
                 f"select starts, {FLOWS}, estimated, lacks_numbers, station from board_period "
-                "where site = :site and starts >= :begin and starts < :end and station in "
+                "where site || '' = :site and starts >= :begin and starts < :end and station in "
                 f"({', '.join(f':{name}' for name in names)}) order by starts"
             )
             rows = self.store.fetch(sql, site=site.name, begin=begin, end=end, **names)
