@@ -240,15 +240,21 @@ class SiteTables:
         assert self.day
         return self.calendar.begin(self.day), self.calendar.end(self.day)
 
-    def fetch(self, statement: str, order: str, column: str) -> list[Row]:
-        """The rows of a statement of this site, of the tables' day by this column."""
+    def fetch_sessions(self, columns: str, order: str) -> list[Row]:
+        """These columns of the site's transactions, of those that began on the tables' day."""
+        statement = (
+            f"select {columns} from session s left join station t on t.station = s.station "
+            "where s.site = :site and s.events > 0"
+        )
         if self.day is None:
             return self.store.fetch(f"{statement} {order}", site=self.site.site)
         begin, end = self.find_span()
-        more = f"and {column} >= :since and {column} < :until"
-        return self.store.fetch(
-            f"{statement} {more} {order}", site=self.site.site, since=begin, until=end
+        # By the first two an index finds them.
+        statement += (
+            " and s.last_at >= :since and s.first_at < :until"
+            " and coalesce(s.began, s.first_at) >= :since and coalesce(s.began, s.first_at) < :until"
         )
+        return self.store.fetch(f"{statement} {order}", site=self.site.site, since=begin, until=end)
 
     # Periods ----------------------------------------------------------------------------------------------------------
 
@@ -263,7 +269,7 @@ class SiteTables:
         if stations is None:
             write_csv(self.path("periods"), heads, self.list_periods())
             return
-        site = self.write_rows("site", "", "", self.fetch_periods("starts"), None)
+        site = self.write_rows("site", "", "", self.fetch_day(), None)
         write_csv(self.path("periods"), heads, site, self.book.read_periods(self, stations))
 
     def list_periods(self) -> Iterator[list[Cell]]:
@@ -297,6 +303,26 @@ class SiteTables:
             f"from evse_period where site = :site {text} group by {columns} order by {columns}",
             site=self.site.site,
             **values,
+        )
+
+    def fetch_day(self) -> list[Row]:
+        """The energy of the periods of the tables' day of the site, station by station as their index has it."""
+        begin, end = self.find_span()
+        return self.store.fetch(
+            """select p.starts, cast(sum(p.up) as bigint) as up, cast(sum(p.down) as bigint) as down,
+            cast(sum(p.export_up) as bigint) as export_up, cast(sum(p.export_down) as bigint) as export_down,
+            max(case when p.measured then 0 else 1 end) as estimated,
+            cast(coalesce(sum(p.shared), 0) as bigint) as shared,
+            max(case when p.numbers_missing then 1 else 0 end) as lacks_numbers
+            from (select station from station where site = :site
+                union select station from session where site = :site) k
+            cross join part p cross join session s
+            where p.station = k.station and p.starts >= :since and p.starts < :until
+                and s.station = p.station and s.transaction_id = p.transaction_id and s.site = :site
+            group by p.starts order by p.starts""",
+            site=self.site.site,
+            since=begin,
+            until=end,
         )
 
     def span_of_rows(self) -> tuple[str, dict[str, Any]]:
@@ -391,11 +417,8 @@ class SiteTables:
         heads += ["findings", *BILL_HEADS, "readings"]
         findings = self.book.read(self.site.site)
         found = group_rows(findings, lambda row: (row.station, row.transaction_id))
-        rows = self.fetch(
-            "select s.*, coalesce(t.place, 0) as place from session s "
-            "left join station t on t.station = s.station where s.site = :site and s.events > 0",
-            "order by coalesce(t.place, 0), s.station, s.transaction_id",
-            "coalesce(s.began, s.first_at)",
+        rows = self.fetch_sessions(
+            "s.*", "order by coalesce(t.place, 0), s.station, s.transaction_id"
         )
         cells = (
             self.write_transaction(row, found.get((row.station, row.transaction_id), []))
@@ -443,10 +466,9 @@ class SiteTables:
 
     def write_signed(self) -> int:
         """Writes the file of signed values of each transaction that has some, and gives how many. Raises OSError."""
-        rows = self.fetch(
-            "select station, sent_id, signed from session where site = :site and signed <> ''",
-            "order by station, transaction_id",
-            "coalesce(began, first_at)",
+        rows = self.fetch_sessions(
+            "s.station, s.sent_id, s.signed",
+            "and s.signed <> '' order by s.station, s.transaction_id",
         )
         folder = self.folder / "signed"
         for row in rows:
