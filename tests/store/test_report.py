@@ -127,9 +127,13 @@ def test_tables(name: str, log: Path, words: tuple[str, ...], status: int, tmp_p
     assert (tmp_path / "out/index.html").exists()
 
 
-def test_each_kind_of_trouble(tmp_path: Path, capfd: pytest.CaptureFixture[str]) -> None:
+@pytest.mark.parametrize("processes", [1, 2])
+def test_each_kind_of_trouble(
+    processes: int, store_name: str, tmp_path: Path, capfd: pytest.CaptureFixture[str]
+) -> None:
     log = write_traffic(tmp_path / "troubles", "2", "troubles")
-    assert make_report(log, tmp_path / "out", "--store", str(tmp_path / "store")) == 0
+    words = ("--store", store_name)
+    assert make_report(log, tmp_path / "out", *words, processes=processes) == 0
     compare("troubles", tmp_path / "out")
     signed = [path.name for path in (tmp_path / "out/troubled/signed").iterdir()]
     assert sorted(signed) == ["signed-differs.T1.xml", "signed-differs.T2.xml"]

@@ -132,8 +132,9 @@ class Renewer:
             days.setdefault(row.site, set()).update(list_days(site, row.first_at, row.last_at))
             stations.setdefault(row.site, set()).add(row.station)
         for name, some in days.items():
+            is_other = self.book.renew(name, sorted(stations[name]))
             self.write_days(sites[name], some, sorted(stations[name]))
-            if self.book.renew(name, sorted(stations[name])):
+            if is_other:
                 self.make_tables(sites[name], None).write_findings()
                 self.tables += 1
         before, self.others = self.others, self.count_others()
@@ -164,8 +165,9 @@ class Renewer:
         for day in sorted(days):
             one = self.make_tables(site, day)
             one.write_periods(stations)
-            one.write_transactions()
-            one.write_signed()
+            one.write_transactions(stations)
+            for station in [None] if stations is None else stations:
+                one.write_signed(station)
             self.tables += 2
 
     def write_others(self, site: Site) -> None:

@@ -42,12 +42,13 @@ create view evse_step as
     where evse <> 0 and events > 0 and first_register is not null
     window earlier as (partition by site, station, evse order by first_at, transaction_id);
 
--- Each transaction of an EVSE that has no end beside the one after it.
+-- Each transaction of an EVSE that has no end beside the one after it, which the index by station, EVSE and time finds,
+-- and none by site.
 create view evse_next as
     select s.site, s.station, s.transaction_id, s.evse, s.last_at, n.transaction_id as next_id, n.first_at as next_at
     from session s join session n on n.station = s.station and n.transaction_id = (
         select l.transaction_id from session l
-        where l.station = s.station and l.evse = s.evse and l.site = s.site and l.events > 0
+        where l.station = s.station and l.evse = s.evse and l.site || '' = s.site and l.events > 0
             and l.first_at >= s.first_at and (l.first_at > s.first_at or l.transaction_id > s.transaction_id)
         order by l.first_at, l.transaction_id limit 1)
     where s.ended is null and s.evse <> 0 and s.events > 0;

@@ -240,14 +240,25 @@ class SiteTables:
         assert self.day
         return self.calendar.begin(self.day), self.calendar.end(self.day)
 
-    def fetch(self, statement: str, order: str, column: str) -> list[Row]:
-        """The rows of a statement of this site, of the tables' day by this column."""
-        if self.day is None:
-            return self.store.fetch(f"{statement} {order}", site=self.site.site)
-        begin, end = self.find_span()
-        more = f"and {column} >= :since and {column} < :until"
+    def fetch_sessions(self, columns: str, order: str, station: str | None = None) -> list[Row]:
+        """These columns of the transactions of the site, or of one of its stations: of those that began on the tables'
+        day."""
+        text, values = "", dict[str, Any]()
+        if station is not None:
+            text, values = " and s.station = :station", {"station": station}
+        if self.day is not None:
+            since, until = self.find_span()
+            # By the first two an index finds them.
+            text += (
+                " and s.last_at >= :since and s.first_at < :until"
+                " and coalesce(s.began, s.first_at) >= :since and coalesce(s.began, s.first_at) < :until"
+            )
+            values |= {"since": since, "until": until}
         return self.store.fetch(
-            f"{statement} {more} {order}", site=self.site.site, since=begin, until=end
+            f"select {columns} from session s left join station t on t.station = s.station "
+            f"where s.site = :site and s.events > 0{text} {order}",
+            site=self.site.site,
+            **values,
         )
 
     # Periods ----------------------------------------------------------------------------------------------------------
@@ -263,8 +274,9 @@ class SiteTables:
         if stations is None:
             write_csv(self.path("periods"), heads, self.list_periods())
             return
-        site = self.write_rows("site", "", "", self.fetch_periods("starts"), None)
-        write_csv(self.path("periods"), heads, site, self.book.read_periods(self, stations))
+        day = self.book.read_periods(self, stations)
+        site = self.write_rows("site", "", "", day.list_sums(), None)
+        write_csv(self.path("periods"), heads, site, day.texts.values())
 
     def list_periods(self) -> Iterator[list[Cell]]:
         """The rows of the table of periods: those of the site, then each station's and its EVSEs'."""
@@ -275,11 +287,16 @@ class SiteTables:
             yield from self.list_station(station, starts)
 
     def list_station(
-        self, station: str, starts: Sequence[datetime] | None = None
+        self,
+        station: str,
+        starts: Sequence[datetime] | None = None,
+        rows: Sequence[Row] | None = None,
     ) -> Iterator[list[Cell]]:
-        """The rows of a station and of its EVSEs. `starts`: as in `write_rows`."""
-        evses = group_rows(self.fetch_periods("evse, starts", station), lambda row: row.evse)
-        rows = self.fetch_periods("starts", station) if evses else []
+        """The rows of a station and of its EVSEs. `starts`: as in `write_rows`; `rows`: what was read of it."""
+        rows = self.fetch_periods("starts", station) if rows is None else rows
+        evses = group_rows(
+            self.fetch_periods("evse, starts", station) if rows else [], lambda row: row.evse
+        )
         yield from self.write_rows("station", station, "", rows, starts)
         for evse, some in evses.items():
             yield from self.write_rows("EVSE", station, evse, some, starts)
@@ -381,27 +398,26 @@ class SiteTables:
 
     # Transactions -----------------------------------------------------------------------------------------------------
 
-    def write_transactions(self) -> None:
-        """Writes the table of transactions. Raises OSError."""
+    def write_transactions(self, stations: Iterable[str] | None = None) -> None:
+        """Writes the table of transactions. `stations`: as in `write_periods`. Raises OSError."""
         ends = [head for name in ("start", "end") for head in self.moment_heads(name)]
         heads = ["site", "station", "transaction", "EVSE (0: not named)", "events", "first seqNo"]
         heads += ["last seqNo", "complete", "missing", "gaps (from..to)", *FLOWS, "state"]
         heads += ["net (kWh)", *ends, "duration (s)", "first register (kWh)", "last register (kWh)"]
         heads += ["first export register (kWh)", "last export register (kWh)", "stopped reason"]
         heads += ["findings", *BILL_HEADS, "readings"]
-        findings = self.book.read(self.site.site)
+        if stations is None:
+            write_csv(self.path("transactions"), heads, self.list_transactions())
+            return
+        write_csv(self.path("transactions"), heads, (), self.book.read_transactions(self, stations))
+
+    def list_transactions(self, station: str | None = None) -> Iterator[list[Cell]]:
+        """The rows of the table of transactions, or those of a station."""
+        findings = self.book.read(self.site.site, station)
         found = group_rows(findings, lambda row: (row.station, row.transaction_id))
-        rows = self.fetch(
-            "select s.*, coalesce(t.place, 0) as place from session s "
-            "left join station t on t.station = s.station where s.site = :site and s.events > 0",
-            "order by coalesce(t.place, 0), s.station, s.transaction_id",
-            "coalesce(s.began, s.first_at)",
-        )
-        cells = (
-            self.write_transaction(row, found.get((row.station, row.transaction_id), []))
-            for row in rows
-        )
-        write_csv(self.path("transactions"), heads, cells)
+        order = "order by coalesce(t.place, 0), s.station, s.transaction_id"
+        for row in self.fetch_sessions("s.*", order, station):
+            yield self.write_transaction(row, found.get((row.station, row.transaction_id), []))
 
     def write_transaction(self, row: Row, found: Sequence[Row]) -> list[Cell]:
         """The cells of a transaction."""
@@ -441,13 +457,11 @@ class SiteTables:
         kind = row.token_type if tokens != "none" else ""
         return [row.sent_id, token_cell(row.token, tokens), kind, row.remote_start_id, *values]
 
-    def write_signed(self) -> int:
-        """Writes the file of signed values of each transaction that has some, and gives how many. Raises OSError."""
-        rows = self.fetch(
-            "select station, sent_id, signed from session where site = :site and signed <> ''",
-            "order by station, transaction_id",
-            "coalesce(began, first_at)",
-        )
+    def write_signed(self, station: str | None = None) -> int:
+        """Writes the file of signed values of each transaction that has some, of the site or of a station, and gives
+        how many. Raises OSError."""
+        order = "and s.signed <> '' order by s.station, s.transaction_id"
+        rows = self.fetch_sessions("s.station, s.sent_id, s.signed", order, station)
         folder = self.folder / "signed"
         for row in rows:
             details = [Details(signed=tuple(read_signed(row.signed)))]
@@ -516,6 +530,52 @@ class SiteTables:
         return [write_utc(row.at), *map(self.cell, names)]
 
 
+class PeriodSum(NamedTuple):
+    """The sum of rows of periods of one beginning: how many rows these are, their energies and shares, and how many of
+    them are estimated or lack numbers."""
+
+    starts: datetime
+    rows: int
+    up: int
+    down: int
+    export_up: int
+    export_down: int
+    estimated: int
+    shared: int
+    lacks_numbers: int
+
+
+class DayPeriods:
+    """The periods of a day: the rows of each station as text, and their sums, in which a station's rows are put in
+    place of those that it had."""
+
+    def __init__(self) -> None:
+        self.texts: dict[str, str] = {}
+        self.rows: dict[str, list[Row]] = {}
+        self.sums: dict[datetime, PeriodSum] = {}
+
+    def put(self, station: str, rows: list[Row], text: str) -> None:
+        """Has these rows of a station."""
+        for row in self.rows.get(station, []):
+            self.add(row, -1)
+        for row in rows:
+            self.add(row, 1)
+        self.rows[station], self.texts[station] = rows, text
+
+    def add(self, row: Row, times: int) -> None:
+        """Adds a row to the sums, or takes it from them."""
+        had = self.sums.get(row.starts, PeriodSum(row.starts, 0, 0, 0, 0, 0, 0, 0, 0))
+        flow = row.up, row.down, row.export_up, row.export_down
+        more = (1, *flow, row.estimated, row.shared, row.lacks_numbers)
+        self.sums[row.starts] = PeriodSum(
+            row.starts, *(a + times * b for a, b in zip(had[1:], more))
+        )
+
+    def list_sums(self) -> list[PeriodSum]:
+        """The sums over all stations, by their beginnings."""
+        return [self.sums[at] for at in sorted(self.sums) if self.sums[at].rows]
+
+
 class Book:
     """What tables that are written again have: findings of sites, and rows of the periods of days. It is read once, and
     again of stations of which something changed."""
@@ -531,26 +591,43 @@ class Book:
         # Findings by site and station.
         self.sites: dict[str, dict[str, list[Row]]] = {}
         # Rows of periods by site and day, and by station; the days that were written last are kept.
-        self.days = OrderedDict[tuple[str, date | None], dict[str, str]]()
+        self.days = OrderedDict[tuple[str, date | None], DayPeriods]()
+        # Rows of transactions as text, likewise, by station.
+        self.sessions = OrderedDict[tuple[str, date | None], dict[str, str]]()
 
-    def read_periods(self, tables: "SiteTables", stations: Iterable[str]) -> Iterable[str]:
-        """The rows of the periods of the stations of a site's day, those of these stations as they are by now."""
+    def read_periods(self, tables: "SiteTables", stations: Iterable[str]) -> "DayPeriods":
+        """The periods of a site's day, those of these stations as they are by now."""
         key = tables.site.site, tables.day
         names = stations if key in self.days else tables.list_stations()
-        known = self.days.setdefault(key, {})
+        day = self.days.setdefault(key, DayPeriods())
         for station in names:
-            known[station] = write_text(tables.list_station(station))
+            rows = tables.fetch_periods("starts", station)
+            day.put(station, rows, write_text(tables.list_station(station, None, rows)))
         self.days.move_to_end(key)
         if len(self.days) > MOST_DAYS:
             self.days.popitem(last=False)
+        return day
+
+    def read_transactions(self, tables: "SiteTables", stations: Iterable[str]) -> Iterable[str]:
+        """The rows of the transactions of a site's day, those of these stations as they are by now."""
+        key = tables.site.site, tables.day
+        names = stations if key in self.sessions else tables.list_stations()
+        known = self.sessions.setdefault(key, {})
+        for station in names:
+            known[station] = write_text(tables.list_transactions(station))
+        self.sessions.move_to_end(key)
+        if len(self.sessions) > MOST_DAYS:
+            self.sessions.popitem(last=False)
         return known.values()
 
-    def read(self, site: str) -> list[Row]:
-        """What is doubtful at a site."""
+    def read(self, site: str, station: str | None = None) -> list[Row]:
+        """What is doubtful at a site, or at one of its stations."""
         known = self.sites.get(site)
         if known is None:
             rows = self.store.fetch(self.STATEMENT, site=site)
             known = self.sites[site] = group_rows(rows, lambda row: row.station)
+        if station is not None:
+            return known.get(station, [])
         return [row for some in known.values() for row in some]
 
     def renew(self, site: str, stations: Iterable[str]) -> bool:
