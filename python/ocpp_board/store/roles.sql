@@ -57,6 +57,10 @@ begin
             execute format('grant insert on %I to ocpp_operator', one);
         end if;
     end loop;
+    if to_regclass('sign_in') is not null then
+        revoke select on sign_in from ocpp_reader;
+        grant insert, delete on sign_in to ocpp_operator;
+    end if;
     if to_regclass('closing') is not null then
         grant select on closing to ocpp_gateway; -- for the age of the last one, at /metrics
     end if;
