@@ -60,5 +60,5 @@ returns g c =
       given = λ k d at. (c.in-Ok.ensures.whole.whole k d at).counted.changes ∙ ap (changes_of k) (sym (c.into_passes.ensures ∙ c.in-Ok.ensures.given));
       count = c.in-Ok.ensures.stations ∙ c.requires.opened.count;
       limits = closed.cells.limits;
-      is = c.in_default.ensures ∙ ap (λ l. l ++ boards_text sites stations ended.closed.cells (length sites)) c.new-boards.ensures.items;
+      is = c.in_default.ensures.text ∙ ap (λ l. l ++ boards_text sites stations ended.closed.cells (length sites)) c.new-boards.ensures.items;
     }
