@@ -105,7 +105,7 @@ with_answers() {
     gzip -c "$days/day.script" > "$made/day.script.gz"
     gives 1 explain/gzip.stderr bash -c 'cd "$1" && "$board" explain day.script.gz' _ "$made"
     reports 2 "No such file or directory" "$board" explain nowhere.script
-    reports 2 "there is no program ./nowhere" "$board" explain --program ./nowhere "$days/day.script"
+    reports 2 "./nowhere: No such file or directory" "$board" explain --program ./nowhere "$days/day.script"
     reports 2 "No space left on device" bash -c '"$board" explain explain/mistakes.script > /dev/full'
 
     # A day on which stations list readings again has, by moment, the periods of the same day without them; by sequence

@@ -304,7 +304,7 @@ def write_beside(options: Options, store: Database) -> Iterator[Callable[[], int
 
 
 def write_pages(options: Options, store: Database) -> int:
-    """Writes the pages, and gives how many."""
+    """Writes the pages, and gives how many there are."""
     from ocpp_board.writers import pages
 
     until = options.until or find_until(store)
@@ -317,7 +317,8 @@ def write_pages(options: Options, store: Database) -> int:
         last=options.tables.last,
         workers=options.processes,
     )
-    return pages.write_pages(store, options.out, asked)
+    pages.write_pages(store, options.out, asked)
+    return sum(1 for _ in options.out.rglob("*.html"))
 
 
 def find_until(store: Database) -> datetime | None:
