@@ -6,7 +6,7 @@ answer is given only after the commit. A failure gives none, and the same may co
 """
 
 import re
-from collections.abc import Callable, Iterable, Iterator, Sequence
+from collections.abc import Callable, Collection, Iterable, Iterator, Sequence
 from contextlib import AbstractContextManager, nullcontext
 from dataclasses import dataclass, field
 from datetime import datetime, timezone
@@ -16,7 +16,7 @@ from typing import Any, NamedTuple, Protocol
 
 from ocpp_board.ledger.answers import Wish
 from ocpp_board.ledger.program import find_program
-from ocpp_board.ledger.quotas import Asking, find_refused, write_reply
+from ocpp_board.ledger.quotas import Asking, find_quotas, find_refused, write_reply
 from ocpp_board.ledger.refusals import (
     CONFLICT,
     UNKNOWN_STATION,
@@ -32,14 +32,14 @@ from ocpp_board.ledger.refusals import (
     name_cause,
     read_levels,
 )
-from ocpp_board.ledger.rows import DELIVER, Done, Work, list_accepted, work_out
+from ocpp_board.ledger.rows import Done, Work, list_accepted, work_out
 from ocpp_board.limits import FIRST_MOMENT
 from ocpp_board.messages.texts import one_line
 from ocpp_board.messages.times import SECOND
-from ocpp_board.records import Answer, Asked, Deed, Line, Message, Rules, Untaken
+from ocpp_board.records import DELIVER, Answer, Asked, Deed, Line, Message, Rules, Untaken
 from ocpp_board.store import lines as store_lines
 from ocpp_board.store.database import Database, Row, choose
-from ocpp_board.store.lines import Held, Kept, Key, Warm, Writer
+from ocpp_board.store.lines import Held, Kept, Key, Warm, Writer, Written
 from ocpp_board.store.plan import RULES_COLUMNS, Author, lock_sites, read_rules, write_site
 
 # An origin that is a place in a file, such as `csms.log:17`.
@@ -226,15 +226,19 @@ def write_batch(
     deeds = find_done(store, batch)
     batch.answers |= deeds
     works = make_works(store, batch, held, deeds)
-    writer = Writer(store, warm is not None)
+    writer, kept = Writer(store), dict[Key, Kept]()
     for key, work, done in work_on(works, pool, foreseen):
-        take_answers(writer, batch, work, done, held[key], deeds)
+        taken = take_answers(store, batch, work, done, deeds)
+        if held[key].refusals:
+            forget_untaken(store, held[key], key[0], taken)
+        if now := write_rows(writer, work, held[key], done):
+            kept[key] = now
     writer.write()
     write_refusals(store, batch)
     write_strays(store, batch)
     write_mended(store, batch)
     write_levels(store, batch, sites)
-    return writer.kept
+    return kept
 
 
 def make_works(
@@ -245,7 +249,9 @@ def make_works(
     works = dict[Key, Work]()
     for key, one in held.items():
         new = list_new(batch, batch.sessions[key], deeds)
-        works[key] = Work(*key, one.site, rules[one.site], one.lines, new, list_conflicts(key, one))
+        course = one.kept.course if one.kept else None
+        conflicts = list_conflicts(key, one)
+        works[key] = Work(*key, one.site, rules[one.site], one.lines, new, conflicts, course=course)
     return works
 
 
@@ -290,6 +296,9 @@ def leave_strays(batch: Batch, sites: dict[str, str]) -> None:
 
 def refuse_by_quotas(store: Database, batch: Batch, sites: dict[str, str]) -> None:
     """Answers messages that are above a quota of their site, which change nothing."""
+    quotas = find_quotas(store, sorted(set(sites.values())))
+    if not quotas:
+        return
     asking = [
         Asking(place, one, key)
         for key, places in batch.sessions.items()
@@ -303,7 +312,7 @@ def refuse_by_quotas(store: Database, batch: Batch, sites: dict[str, str]) -> No
         if id(one) in values and isinstance(one, Message) and one.station in sites
     ]
     asking.sort(key=attrgetter("place"))
-    for place, name in find_refused(store, asking, sites).items():
+    for place, name in find_refused(store, asking, sites, quotas).items():
         one = batch.asked[place]
         assert isinstance(one, Message)
         key = (one.station, batch.wishes[place].text)
@@ -416,45 +425,50 @@ def work_piece(works: list[Work]) -> list[Done]:
 
 
 def take_answers(
-    writer: Writer, batch: Batch, work: Work, done: Done, held: Held, deeds: dict[int, Answer]
-) -> None:
-    """Notes the answers to a transaction's lines, and has its lines and rows written."""
-    key, store, taken = (work.station, work.transaction), writer.store, set[int]()
-    places = [place for place in batch.sessions[key] if place not in deeds]
-    for place, (outcome, name, reply, change) in zip(places, done.answers):
-        batch.answers[place] = Answer(outcome, name, reply, key[1], change)
+    store: Database, batch: Batch, work: Work, done: Done, deeds: dict[int, Answer]
+) -> set[int]:
+    """Notes the answers to a transaction's lines, and gives the numbers of those events that it has now."""
+    key, taken = (work.station, work.transaction), set[int]()
+    places = batch.sessions[key]
+    if deeds:
+        places = [place for place in places if place not in deeds]
+    for place, answer in zip(places, done.answers):
+        batch.answers[place] = answer
         one = batch.asked[place]
-        if isinstance(one, Message):
-            if outcome in ("accepted", "repeat"):
-                taken.add(batch.wishes[place].number)
-            elif outcome in ("refused", "fault"):
-                refusal = describe_message(one.text, name, one.received)
-                batch.refusals.append((one, refusal, key[1]))
-        elif isinstance(one, Deed):
-            write_deed(store, one, batch.answers[place])
-    write_rows(writer, work, held, done)
-    untaken = [row for row in held.refusals if row.cause == UNTAKEN and row.number in taken]
-    if untaken:
-        store.execute_each(
-            "delete from refusal where station = :station and cause = :cause and digest = :digest",
-            [{"station": key[0], "cause": row.cause, "digest": row.digest} for row in untaken],
-        )
+        if isinstance(one, Deed):
+            write_deed(store, one, answer)
+        elif answer.outcome in ("accepted", "repeat"):
+            taken.add(batch.wishes[place].number)
+        elif isinstance(one, Message) and answer.outcome in ("refused", "fault"):
+            refusal = describe_message(one.text, answer.name, one.received)
+            batch.refusals.append((one, refusal, key[1]))
+    return taken
 
 
-def write_rows(writer: Writer, work: Work, held: Held, done: Done) -> None:
-    """Has the accepted lines of a transaction and its rows written."""
+def forget_untaken(store: Database, held: Held, station: str, taken: Collection[int]) -> None:
+    """Removes what no source could take of events that came by now."""
+    store.execute_each(
+        "delete from refusal where station = :station and cause = :cause and digest = :digest",
+        [
+            {"station": station, "cause": row.cause, "digest": row.digest}
+            for row in held.refusals
+            if row.cause == UNTAKEN and row.number in taken
+        ],
+    )
+
+
+def write_rows(writer: Writer, work: Work, held: Held, done: Done) -> Kept | None:
+    """Has the accepted lines of a transaction and its rows written, and gives what is to be kept of it."""
     key = work.station, work.transaction
     if done.rows is None:
         if not held.lines:
             writer.drop_empty(key)
-        return
-    parts = [one._asdict() for one in done.rows.parts]
-    findings = [
-        {"kind": one.kind.label, "times": one.times, "first_at": one.first, "detail": one.detail}
-        for one in done.rows.findings
-    ]
-    session = done.rows.session._asdict()
-    writer.add(key, held, list_accepted(work, done.answers), session, parts, findings)
+        return held.kept
+    findings = [(one.kind.label, one.times, one.first, one.detail) for one in done.rows.findings]
+    accepted = list_accepted(work, done.answers)
+    return writer.add(
+        key, Written(held, accepted, done.rows.session, done.rows.parts, findings, done.course)
+    )
 
 
 def write_deed(store: Database, one: Deed, answer: Answer) -> None:

@@ -5,9 +5,9 @@ from dataclasses import dataclass, field
 from itertools import groupby
 from operator import attrgetter
 
-from ocpp_board.ledger.rows import DELIVER, count_readings
+from ocpp_board.ledger.course import count_readings
 from ocpp_board.limits import GREATEST_LIMITS, MOST_READINGS, MOST_STATIONS
-from ocpp_board.records import Rules
+from ocpp_board.records import DELIVER, Rules
 from ocpp_board.store.database import Row
 
 # Bytes of a script at which another one begins.

@@ -3,6 +3,7 @@
 Which events count, and what their readings come to, the program lists (`ledger.answers`).
 """
 
+from collections.abc import Iterator
 from datetime import datetime, timezone
 from typing import Any, NamedTuple
 
@@ -14,6 +15,8 @@ from ocpp_board.messages.times import seconds_of as seconds_of
 
 # What a measurand of active energy begins with, whether its readings count or not.
 ENERGY = "Energy.Active."
+# The measurands whose readings count.
+REGISTERS = (IMPORT, EXPORT)
 # The unit of a value that names none.
 NO_UNIT: dict[str, Any] = {}
 # Seconds by which an event may lie after its receipt, and before it where it was not queued offline.
@@ -31,9 +34,9 @@ class Reading(NamedTuple):
 
 
 class Event(NamedTuple):
-    """An event as its message has it. `others`: what it has of energy that doesn't count; `is_far`: whether its time
-    is far from its receipt; `evse`: 0 if it names none; `unlike`: signed values that differ from their plain ones.
-    """
+    """An event. `others`: what it has of energy that doesn't count; `is_far`: whether its time is far from its receipt;
+    `evse`: 0 if it names none; `unlike`: signed values that differ from their plain ones; `details`: what it has for a
+    bill."""
 
     number: int
     kind: str
@@ -44,11 +47,20 @@ class Event(NamedTuple):
     reason: str
     evse: int = 0
     unlike: tuple[str, ...] = ()
-    # What it has for a bill.
     details: Details = NOTHING
-    # Which line of the script it is, and when that was received (seconds since 1970).
-    line: int = 0
-    received: float | None = None
+
+
+class Beside(NamedTuple):
+    """What the message of an event has beside its number, kind, time, EVSE and counted readings."""
+
+    others: tuple[str, ...] = ()
+    is_offline: bool = False
+    reason: str = ""
+    unlike: tuple[str, ...] = ()
+    details: Details = NOTHING
+
+
+NOTHING_BESIDE = Beside()
 
 
 def moment(seconds: float | None) -> datetime | None:
@@ -65,44 +77,55 @@ def plain(value: Any) -> str:
     return text if len(value) <= LONGEST_TEXT else text + ".."
 
 
-def event_of(payload: dict[str, Any], received: datetime | None, line: int = 0) -> Event:
-    """The event of a payload that passed the program's checks. `line`: which of the script it is."""
-    readings: list[Reading] = []
-    others: set[str] = set()
-    unlike: list[str] = []
-    info = payload["transactionInfo"]
-    has_details = "idToken" in payload or "remoteStartId" in info
-    for one in payload.get("meterValue") or ():
-        taken = seconds_of(one["timestamp"])
-        for sampled in one["sampledValue"]:
-            if len(sampled) == 1 and "value" in sampled:
-                # Only a value: one of the import register.
-                readings.append(Reading(taken, mwh_of(sampled["value"], NO_UNIT), False))
-                continue
-            has_details = has_details or "signedMeterValue" in sampled
-            measurand = measurand_of(sampled)
-            if measurand in (IMPORT, EXPORT):
-                mwh = mwh_of(sampled["value"], sampled.get("unitOfMeasure") or NO_UNIT)
-                readings.append(Reading(taken, mwh, measurand == EXPORT))
-                if "signedMeterValue" in sampled and (said := unlike_plain(sampled, mwh)):
-                    unlike.append(said)
-            elif measurand.startswith(ENERGY):
-                others.add(plain(measurand))
+def event_of(payload: dict[str, Any], received: datetime | None) -> Event:
+    """The event of a payload that passed the program's checks."""
+    beside = read_beside(payload)
     at = seconds_of(payload["timestamp"])
-    receipt = received.timestamp() if received else None
     return Event(
         int(payload["seqNo"]),
         payload["eventType"],
         at,
-        tuple(readings),
-        tuple(sorted(others)) if others else (),
-        is_far(at, receipt, payload.get("offline") is True),
-        plain(info.get("stoppedReason")),
+        tuple(list_readings(payload)),
+        beside.others,
+        is_far(at, received.timestamp() if received else None, beside.is_offline),
+        beside.reason,
         evse_of(payload) if "evse" in payload else 0,
+        beside.unlike,
+        beside.details,
+    )
+
+
+def list_readings(payload: dict[str, Any]) -> Iterator[Reading]:
+    """The readings of a payload that count."""
+    for value in payload.get("meterValue") or ():
+        at = seconds_of(value["timestamp"])
+        for sampled in value["sampledValue"]:
+            if (measurand := measurand_of(sampled)) in REGISTERS:
+                mwh = mwh_of(sampled["value"], sampled.get("unitOfMeasure") or NO_UNIT)
+                yield Reading(at, mwh, measurand == EXPORT)
+
+
+def read_beside(payload: dict[str, Any]) -> Beside:
+    """What a payload that passed the program's checks has beside what counts."""
+    others, unlike = set[str](), list[str]()
+    info = payload["transactionInfo"]
+    has_details = "idToken" in payload or "remoteStartId" in info
+    for value in payload.get("meterValue") or ():
+        for sampled in value["sampledValue"]:
+            measurand = measurand_of(sampled)
+            is_counted, is_signed = measurand in REGISTERS, "signedMeterValue" in sampled
+            has_details = has_details or is_signed
+            if measurand.startswith(ENERGY) and not is_counted:
+                others.add(plain(measurand))
+            if is_counted and is_signed:
+                mwh = mwh_of(sampled["value"], sampled.get("unitOfMeasure") or NO_UNIT)
+                unlike += filter(None, [unlike_plain(sampled, mwh)])
+    return Beside(
+        tuple(sorted(others)),
+        payload.get("offline") is True,
+        plain(info.get("stoppedReason")),
         tuple(unlike),
         details_of(payload) if has_details else NOTHING,
-        line,
-        receipt,
     )
 
 

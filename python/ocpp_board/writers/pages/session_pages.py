@@ -59,7 +59,7 @@ def read_line(line: SessionLine) -> Came:
     if word != "deliver":
         return Came(line, word, int(rest.rpartition(" ")[2]), None)
     payload = DECODER.decode(rest.partition(" ")[2])[3]
-    event = event_of(payload, line.received, line.number)
+    event = event_of(payload, line.received)
     return Came(line, word, event.number, event)
 
 
