@@ -12,7 +12,7 @@ import pytest
 from ocpp_board.ledger.answers import AnswerReader
 from ocpp_board.ledger.course import Course
 from ocpp_board.ledger.events import read_conflict
-from ocpp_board.ledger.findings import MOST_KW, Finding, Kind, name_order_option
+from ocpp_board.ledger.findings import MOST_KW, Finding, Kind
 from ocpp_board.ledger.rows import find_ends
 from ocpp_board.messages.transactions import mwh_of
 from ocpp_board.records import Line, Rules
