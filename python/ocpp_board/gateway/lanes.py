@@ -19,6 +19,7 @@ from enum import Enum
 from typing import Any, NamedTuple
 
 from ocpp_board.processes import MODULE, environment
+from ocpp_board.records import Message
 
 log = logging.getLogger(__name__)
 
@@ -55,6 +56,12 @@ class Request(NamedTuple):
     text: str
     received: datetime
     origin: str
+    # The quota that the message is above, by which it is refused.
+    quota: str
+
+    def make_message(self) -> Message:
+        """The same, as it is settled."""
+        return Message(self.station, self.text, self.received, self.origin, quota=self.quota)
 
 
 @dataclass(slots=True, eq=False)
@@ -202,11 +209,11 @@ class Lanes:
         """Whether the last batch of each lane had answers."""
         return all(lane.is_up for lane in self.lanes)
 
-    async def ask(self, station: str, text: str, origin: str) -> str | None:
+    async def ask(self, station: str, text: str, origin: str, quota: str = "") -> str | None:
         """The reply to a station's message, once what it changes is stored; nothing where it gets none. Raises
         TooLate."""
         loop = asyncio.get_running_loop()
-        request = Request(station, text, datetime.now(timezone.utc), origin)
+        request = Request(station, text, datetime.now(timezone.utc), origin, quota)
         one = Waiting(request, loop.create_future())
         self.waiting.add(one)
         try:

@@ -13,7 +13,7 @@ import traceback
 from typing import Any, BinaryIO
 
 from ocpp_board.errors import StoreAway
-from ocpp_board.gateway.lanes import HEAD, Fate
+from ocpp_board.gateway.lanes import HEAD, Fate, Request
 from ocpp_board.ledger.engine import settle
 from ocpp_board.records import Answer, Message
 from ocpp_board.store.database import Database, open_store
@@ -51,7 +51,7 @@ class Desk:
         """What the gateway gets for a batch."""
         began = time.process_time()
         try:
-            answers = self.settle([Message(*request) for request in requests])
+            answers = self.settle([Request(*words).make_message() for words in requests])
         except StoreAway as fault:
             return Fate.AWAY.value, [], str(fault)
         except Exception as fault:
