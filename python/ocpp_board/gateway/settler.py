@@ -19,6 +19,9 @@ from ocpp_board.records import Answer, Message
 from ocpp_board.store.database import Database, open_store
 from ocpp_board.store.lines import Warm
 
+# Seconds after which PostgreSQL ends a transaction whose process says nothing more, such as one that is stopped: it
+# holds what others wait for. A batch that takes longer is given up by its gateway before.
+SILENT = 20.0
 # What a station gets for a line that the ledger could not take.
 FAULT = '[4,"-1","InternalError","{}",{{}}]'
 
@@ -36,10 +39,17 @@ class Desk:
         self.store: Database | None = None
         self.warm = Warm()
 
+    def open_store(self) -> Database:
+        """Opens the store. Raises StoreError."""
+        store = open_store(self.address)
+        if store.kind == "postgresql":
+            store.execute(f"set idle_in_transaction_session_timeout = {1000 * SILENT:.0f}")
+        return store
+
     def settle(self, asked: list[Message]) -> list[Answer]:
         """The answers to these messages, once what they change is stored. Raises StoreError."""
         if self.store is None:
-            self.store = open_store(self.address)
+            self.store = self.open_store()
         try:
             return settle(self.store, asked, warm=self.warm)
         except BaseException:
