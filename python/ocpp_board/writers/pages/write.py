@@ -26,7 +26,13 @@ from ocpp_board.store.database import Database, open_again
 from ocpp_board.writers.calendar import Calendar, find_calendar
 from ocpp_board.writers.pages.context import Context, DayBook, PageOptions
 from ocpp_board.writers.pages.day_pages import MOST_STATIONS, make_day_page, make_station_day_page
-from ocpp_board.writers.pages.facts import Found, SessionFacts, Site, StationSummary
+from ocpp_board.writers.pages.facts import (
+    Found,
+    SessionFacts,
+    SessionRecord,
+    Site,
+    StationSummary,
+)
 from ocpp_board.writers.pages.links import FileLinks, FilePaths
 from ocpp_board.writers.pages.list_pages import LIST_ROWS, LISTS, make_list_page
 from ocpp_board.writers.pages.month_pages import find_days, find_months, make_month_page
@@ -88,15 +94,14 @@ class PageWriter:
 
     def put(self, path: str, page: Markup) -> None:
         """Puts a page into its file. Raises OSError."""
-        file = self.out / path
-        made = file.with_name(f".{file.name}.made")
-        data = page.encode()
+        folder, name = os.path.split(f"{self.out}/{path}")
+        made, data = f"{folder}/.{name}.made", page.encode()
         try:
-            made.write_bytes(data)
+            write_file(made, data)
         except FileNotFoundError:
-            file.parent.mkdir(parents=True, exist_ok=True)
-            made.write_bytes(data)
-        os.replace(made, file)
+            os.makedirs(folder, exist_ok=True)
+            write_file(made, data)
+        os.replace(made, f"{folder}/{name}")
         self.count += 1
 
     # All --------------------------------------------------------------------------------------------------------------
@@ -138,9 +143,9 @@ class PageWriter:
         self.book.made.clear()
         if station is not None:
             findings = group_findings(self.find_summary(site, station).found)
-            for session in self.reader.station_sessions(site.name, station):
-                key = session.station, session.transaction_id
-                self.write_session(site, session, findings.get(key, ()))
+            for session, record in self.reader.station_records(site.name, station):
+                found = findings.get((station, session.transaction_id), ())
+                self.write_session(site, session, found, record)
 
     def write_index(self, sites: Sequence[Site], changed: Collection[str] | None = None) -> None:
         """Writes the page of all sites. `changed`: those that changed; None for all. Raises OSError."""
@@ -201,11 +206,17 @@ class PageWriter:
                 return
         (self.out / PATHS.listing(site.name, name, number)).unlink(missing_ok=True)
 
-    def write_session(self, site: Site, session: SessionFacts, findings: Sequence[Found]) -> None:
-        """Writes the page of a transaction."""
+    def write_session(
+        self,
+        site: Site,
+        session: SessionFacts,
+        findings: Sequence[Found],
+        record: SessionRecord | None = None,
+    ) -> None:
+        """Writes the page of a transaction. `record`: what was read of it."""
         self.write(
             PATHS.session(site.name, session.station, session.transaction_id),
-            lambda context: make_session_page(context, site, session, findings),
+            lambda context: make_session_page(context, site, session, findings, record),
         )
 
     # What changed -----------------------------------------------------------------------------------------------------
@@ -332,6 +343,12 @@ class PageWriter:
 
 
 MOST_SPAN_LINES = 600
+
+
+def write_file(path: str, data: bytes) -> None:
+    """Writes a file. Raises OSError."""
+    with open(path, "wb") as file:
+        file.write(data)
 
 
 def find_now(options: PageOptions) -> datetime:
