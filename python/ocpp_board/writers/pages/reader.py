@@ -234,6 +234,12 @@ class Reader:
             found += [rows[0][0]] if rows[0][0] is not None else []
         return max(found, default=None)
 
+    def station_moments(self, site: str, station: str) -> Iterator[datetime]:
+        """The moments at which the sessions of a station began and ended."""
+        sql = "select first_at, last_at from session where site = :site and station = :station"
+        rows = self.store.fetch(sql, site=site, station=station)
+        return (at for row in rows for at in row if at)
+
     def last_moment(self, site: str, station: str | None = None) -> datetime | None:
         """The last moment of the sessions of a site or of a station."""
         rows = self.read_of(
@@ -258,7 +264,8 @@ class Reader:
             "and last_at < :latest and first_at < :end"
         )
         values = {"begin": begin, "end": end, "latest": end + LONGEST}
-        rows = self.read_of(sql, site, station, " order by first_at, station", **values)
+        end_of = " order by first_at, station, transaction_id"
+        rows = self.read_of(sql, site, station, end_of, **values)
         return [make_session(row) for row in rows]
 
     def station_sessions(self, site: str, station: str) -> list[SessionFacts]:
@@ -439,7 +446,8 @@ class Reader:
 
 def make_period(row: Row, seconds: int) -> Period:
     """Makes a period of its start, its energies, and how they were come by."""
-    return Period(row[0], seconds, make_flow(row, 1), not row[5], bool(row[6]))
+    flow = Flow(row[1], row[2], row[3], row[4])
+    return Period(row[0], seconds, flow, not row[5], bool(row[6]))
 
 
 def make_found(row: Row) -> Found:
