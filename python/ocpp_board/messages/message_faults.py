@@ -28,8 +28,8 @@ MOST_EVSES, GREATEST_MULTIPLIER, MOST_READINGS = 64, 12, 1_024
 LONGEST_ID = 36
 # What is advised where a declared mend takes a message as it is meant, with the mend and what it does.
 MEND = (
-    "it waits for a decision: `ocpp-board take STATION --mend {0} --why ..` takes it {1}; `--mend SITE={0}` of report, "
-    "follow or log-to-script does so with a log"
+    "take it {1}: from a log by `--mend SITE={0}` of report, follow or log-to-script; in a store by `ocpp-board take "
+    "STATION --mend {0} --why ..`"
 )
 MEND_VALUE = MEND.format("text-value", "as a number")
 MEND_TIME = MEND.format("no-offset:ZONE", "in the zone that is named")
@@ -44,8 +44,8 @@ MEND_NEGATIVE = MEND.format("negative", "as 0, if it is small")
 MEND_PARTED = MEND.format("parted", "in several events, if it is the end")
 # What is advised where none does.
 CORRECT = (
-    "it waits for a decision: correct the text and take it by `ocpp-board take STATION --text FILE --why ..`, or leave "
-    "it out by `take --leave`"
+    "correct the text, or leave it out: in a store by `ocpp-board take STATION --text FILE --why ..`, or `take STATION "
+    "--leave`"
 )
 
 
@@ -233,9 +233,8 @@ class Checks:
 
 
 MORE_ROOM = (
-    "it waits for a decision: give more room by `plan site SITE --events` or `--readings`, then `ocpp-board take "
-    "STATION ID --why ..` (in a script: a line `limits <transactions> <events> <readings> <changes>` before its "
-    "`station` line)"
+    "more room: in a store by `plan site SITE --events` or `--readings`, then `ocpp-board take STATION ID --why ..`; in "
+    "a script by a line `limits <transactions> <events> <readings> <changes>` before its `station` line"
 )
 REMEDIES = {
     "TextTooLong": ("the message has more than 262,144 bytes", CORRECT),
@@ -243,9 +242,9 @@ REMEDIES = {
     "Format": ("the payload is no object", "an object as the fourth element"),
     "ConflictingEvent": (
         "this transaction already has an event with this seqNo and another kind, time, EVSE or other readings",
-        "it waits for a decision: where the station used the id again for another session, `ocpp-board take STATION ID "
-        "--as OTHER-ID --why ..`; where the stored one is wrong, `operate void` and `operate erase` it, then `take`; "
-        "else `take --leave`",
+        "where the station used the id again for another session: `ocpp-board take STATION ID --as OTHER-ID --why ..` of "
+        "a store; where the stored one is wrong: void and erase it (`operate void`, `operate erase`), then send this one "
+        "again, or `take` it; else leave it out, or `take --leave`",
     ),
     "TooManyTransactions": (
         "the station has as many transactions as its limits allow",
@@ -265,13 +264,22 @@ REMEDIES = {
     ),
     "TooManyOpen": (
         "the station has as many transactions without an end as its site's quota allows",
-        "it waits for a decision: look why the station ends none; raise the quota by `plan quota` where it is right, "
+        "look why the station ends none; raise the quota by `plan quota` where it is right, "
         "then `ocpp-board take STATION --why ..`",
     ),
     "TooManyBytes": (
         "the station sent as much on this day (UTC) as its site's quota allows",
-        "it waits for a decision: look what the station sends; raise the quota by `plan quota` where it is right, then "
+        "look what the station sends; raise the quota by `plan quota` where it is right, then "
         "`ocpp-board take STATION --why ..`",
+    ),
+    "TooManyMessages": (
+        "the station sent more messages a second, over a minute, than its site's quota allows",
+        "look what the station sends; raise the quota by `plan quota` where it is right, then "
+        "`ocpp-board take STATION --why ..`",
+    ),
+    "TooManyStrays": (
+        "as many texts of a station that no site has are kept as there may be",
+        "add the station by `plan station`, and have its log read again",
     ),
     "NoSuchEvent": (
         "the station has no event with this transaction id and this number",

@@ -22,7 +22,7 @@ SENT = ("stopped_reason", "sent_id", "token", "token_type", "remote_start_id", "
 PART = "starts up down export_up export_down on_board measured shared numbers_missing".split()
 FINDING = "kind times first_at detail".split()
 OF_SESSION = "station = :station and transaction_id = :transaction"
-# Texts of a station above a quota of bytes that are kept each; further ones are one row.
+# Texts of a station that sends too much which are kept each; further ones are one row.
 MOST_TEXTS = 1_000
 # The digest of that row, and what it says.
 MANY, ONE_OF_MANY = "many", "one of many"

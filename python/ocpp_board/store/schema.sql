@@ -16,8 +16,9 @@ create table site (
     events int not null default 4096,           -- what a transaction may keep
     readings int not null default 16384,
     most_kw int not null default 400,           -- the greatest power of an EVSE that can be
-    most_open int not null default 0,           -- open transactions of a station, bytes a day; 0: any number
-    most_bytes bigint not null default 0,
+    most_open int not null default 0,           -- open transactions of a station, bytes a day, and messages a second
+    most_bytes bigint not null default 0,       -- at a gateway, over a minute; 0: any number
+    most_rate int not null default 0,
     first_settled_day date,
     place int not null default 0                -- the order of sites on pages
 );
@@ -182,7 +183,7 @@ create table meter_value (
 
 -- Messages that were refused and lines that no source could take, each with its text. `digest`: that of the text, so the
 -- same again is one row of a cause; `origins`: the places in files that it was read from, so a file that is read again
--- is not counted again. Of messages above a quota of bytes so many are kept each, and the text of further ones is that
+-- is not counted again. Of messages of a station that sends too much so many are kept each, and the text of further ones is that
 -- of the first one. `decision`: what somebody decided, or the engine where the text was taken after all: `taken`, `taken
 -- as ID`, `mended`, `left out`; empty while it waits.
 create table refusal (
