@@ -21,7 +21,7 @@ from ocpp_board.errors import UsageError
 from ocpp_board.escapes import shown
 from ocpp_board.limits import LONGEST_LINE
 from ocpp_board.messages.texts import Refused
-from ocpp_board.records import Asked, Deed, Message, Rules, Untaken
+from ocpp_board.records import Asked, Deed, LeftOut, Message, Rules, Untaken
 from ocpp_board.sources.files import open_input, read_lines, unpack
 from ocpp_board.sources.forms import Shape
 from ocpp_board.sources.lines import FORMS as WORDS
@@ -61,15 +61,17 @@ class Batch:
     rules: dict[str, Rules] = field(default_factory=dict)
     lines: int = 0
     untaken: int = 0
+    # Stations that were left out for their version.
+    left_out: list[LeftOut] = field(default_factory=list)
 
     def __getstate__(self) -> tuple[Any, ...]:
         """What goes to another process: records as plain tuples."""
         rows = [(RECORDS.index(type(one)), FIELDS[type(one)](one)) for one in self.records]
-        return rows, self.site_of, self.rules, self.lines, self.untaken
+        return rows, self.site_of, self.rules, self.lines, self.untaken, self.left_out
 
     def __setstate__(self, state: tuple[Any, ...]) -> None:
         """What came from another process."""
-        rows, self.site_of, self.rules, self.lines, self.untaken = state
+        rows, self.site_of, self.rules, self.lines, self.untaken, self.left_out = state
         self.records = [RECORDS[kind](*values) for kind, values in rows]
 
 
@@ -196,6 +198,7 @@ class BatchReader:
             mistakes.report(number, why)
             self.batch.untaken += 1
         self.batch.lines += reader.counts["lines"]
+        self.batch.left_out += reader.take_left_out()
         yield self.end_batch()
         self.meter.end()
         mistakes.end()
