@@ -201,13 +201,11 @@ class BatchReader:
             return
         if read.note:
             mistakes.report(number, read.note)
-        message = read.message
-        if message is None:
-            return
         batch = self.batch
-        batch.records.append(message)
-        if message.site and message.station not in batch.site_of:
-            batch.site_of[message.station] = message.site
+        for message in read.messages:
+            batch.records.append(message)
+            if message.site and message.station not in batch.site_of:
+                batch.site_of[message.station] = message.site
 
     def refuse(
         self,
