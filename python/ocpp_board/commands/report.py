@@ -317,8 +317,7 @@ def write_pages(options: Options, store: Database) -> int:
         last=options.tables.last,
         workers=options.processes,
     )
-    pages.write_pages(store, options.out, asked)
-    return sum(1 for _ in options.out.rglob("*.html"))
+    return pages.write_pages(store, options.out, asked)
 
 
 def find_until(store: Database) -> datetime | None:
