@@ -12,7 +12,8 @@ DEEDS = ("void", "restore", "erase")
 class Message:
     """A text of a station. `origin`: where it is from, for errors and repeats, such as `csms.log:17`; `site`: the site
     that the source names, which the plan may not have. `mends`: the faults that were mended in it, and `came`: the text
-    as the station sent it, where some were."""
+    as the station sent it, where some were. `quota`: the one that its source found it above, by which it is refused.
+    """
 
     station: str
     text: str
@@ -21,6 +22,7 @@ class Message:
     site: str | None = None
     mends: str = ""
     came: str = ""
+    quota: str = ""
 
 
 @dataclass(frozen=True, slots=True)

@@ -20,6 +20,7 @@ from ocpp_board.gateway.door import Door, Known
 from ocpp_board.gateway.lanes import Lanes
 from ocpp_board.gateway.lookouts import Clerk, Gatherer, Lookout, Served
 from ocpp_board.gateway.metrics import Repeated, serve_figures
+from ocpp_board.gateway.pace import Pace
 from ocpp_board.passwords import Password
 from ocpp_board.gateway.station_socket import (
     HANDSHAKE,
@@ -31,6 +32,7 @@ from ocpp_board.gateway.station_socket import (
     make_socket,
 )
 from ocpp_board.store import stations
+from ocpp_board.store.stations import Change
 
 log = logging.getLogger(__name__)
 
@@ -85,6 +87,9 @@ class Gateway:
         # The connection of each station, and how many there were.
         self.served: dict[str, StationSocket] = {}
         self.let_in = 0
+        # What the plan had of stations that came, and what they sent lately.
+        self.known: dict[str, Known] = {}
+        self.paces: dict[str, Pace] = {}
         self.counts = Counter[str]()
         self.repeated = Repeated()
         # Messages of stations that no site has, and seconds since the last closing of sites.
@@ -142,8 +147,17 @@ class Gateway:
 
     async def find(self, station: str) -> Known:
         """What the store has of a station. Raises StoreError."""
-        rows = await self.finder.ask(station) if station else None
-        return Known(rows is not None, tuple(Password(*row) for row in rows or ()))
+        planned = await self.finder.ask(station) if station else None
+        if planned is None:
+            self.known.pop(station, None)
+            return Known(False)
+        self.known[station] = Known(True, planned.passwords, planned.site, planned.most_rate)
+        return self.known[station]
+
+    def find_most_rate(self, station: str) -> int:
+        """How many messages a second the quota of a station's site allows; 0: any number."""
+        known = self.known.get(station)
+        return known.most_rate if known else 0
 
     async def note_seen(self, station: str, password: Password) -> bool:
         """Notes that a station came with a password, which ends an older one. Whether it has it still. Raises
@@ -167,11 +181,14 @@ class Gateway:
             del self.served[served.station]
             self.replace(socket)
 
-    def hear_changed(self, names: Sequence[str]) -> None:
-        """Stations whose plan changed: a retired one, and one that came with a password that ended, has to go."""
-        for name in names:
-            if name in self.served:
-                self.spawn(self.look_again(name))
+    def hear_changed(self, changes: Sequence[Change]) -> None:
+        """Stations or their sites whose plan changed: a retired station, and one that came with a password that ended,
+        has to go."""
+        stations = {one.name for one in changes if one.what != "site"}
+        if sites := {one.name for one in changes if one.what == "site"}:
+            stations |= {name for name, known in self.known.items() if known.site in sites}
+        for name in stations & self.served.keys():
+            self.spawn(self.look_again(name))
 
     async def look_again(self, station: str) -> None:
         """Ends a station's connection where it could not come in any more."""
@@ -190,10 +207,14 @@ class Gateway:
     # --- the run -------------------------------------------------------------------------------------------------
 
     async def tick(self) -> None:
-        """Notes again and again that the event loop runs."""
+        """Notes again and again that the event loop runs, and forgets what stations sent some time ago."""
         while True:
             self.ran = time.monotonic()
             await asyncio.sleep(1)
+            over = [name for name, pace in self.paces.items() if pace.is_over(self.ran)]
+            for name in over:
+                if name not in self.served:
+                    del self.paces[name]
 
     async def read_figures(self) -> None:
         """Reads what the store says of itself, for who watches."""

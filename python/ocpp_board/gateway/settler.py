@@ -13,12 +13,15 @@ import traceback
 from typing import Any, BinaryIO
 
 from ocpp_board.errors import StoreAway
-from ocpp_board.gateway.lanes import HEAD, Fate
+from ocpp_board.gateway.lanes import HEAD, Fate, Request
 from ocpp_board.ledger.engine import settle
 from ocpp_board.records import Answer, Message
 from ocpp_board.store.database import Database, open_store
 from ocpp_board.store.lines import Warm
 
+# Seconds after which PostgreSQL ends a transaction whose process says nothing more, such as one that is stopped: it
+# holds what others wait for. A batch that takes longer is given up by its gateway before.
+SILENT = 20.0
 # What a station gets for a line that the ledger could not take.
 FAULT = '[4,"-1","InternalError","{}",{{}}]'
 
@@ -36,10 +39,17 @@ class Desk:
         self.store: Database | None = None
         self.warm = Warm()
 
+    def open_store(self) -> Database:
+        """Opens the store. Raises StoreError."""
+        store = open_store(self.address)
+        if store.kind == "postgresql":
+            store.execute(f"set idle_in_transaction_session_timeout = {1000 * SILENT:.0f}")
+        return store
+
     def settle(self, asked: list[Message]) -> list[Answer]:
         """The answers to these messages, once what they change is stored. Raises StoreError."""
         if self.store is None:
-            self.store = open_store(self.address)
+            self.store = self.open_store()
         try:
             return settle(self.store, asked, warm=self.warm)
         except BaseException:
@@ -51,7 +61,7 @@ class Desk:
         """What the gateway gets for a batch."""
         began = time.process_time()
         try:
-            answers = self.settle([Message(*request) for request in requests])
+            answers = self.settle([Request(*words).make_message() for words in requests])
         except StoreAway as fault:
             return Fate.AWAY.value, [], str(fault)
         except Exception as fault:

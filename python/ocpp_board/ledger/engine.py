@@ -16,7 +16,13 @@ from typing import Any, NamedTuple, Protocol
 
 from ocpp_board.ledger.answers import Wish
 from ocpp_board.ledger.program import find_program
-from ocpp_board.ledger.quotas import Asking, find_refused, write_reply
+from ocpp_board.ledger.quotas import (
+    TOO_MANY_STRAYS,
+    Asking,
+    find_refused,
+    find_strays_above,
+    write_reply,
+)
 from ocpp_board.ledger.refusals import (
     CONFLICT,
     UNKNOWN_STATION,
@@ -169,6 +175,10 @@ def sort_asked(batch: Batch) -> None:
 
 def sort_message(batch: Batch, place: int, one: Message, wish: Wish) -> None:
     """Sorts a message by what it asks for."""
+    if one.quota and wish.outcome in ("event", "reply"):
+        batch.replied[place] = one
+        refuse_message(batch, place, one.quota)
+        return
     if wish.outcome == "event":
         batch.sessions.setdefault((one.station, wish.text), []).append(place)
         return
@@ -219,6 +229,7 @@ def write_batch(
     """Writes what a batch changes, within a database transaction, and answers the rest of it."""
     sites = hold_sites(store, batch)
     leave_strays(batch, sites)
+    refuse_strays(store, batch)
     refuse_by_quotas(store, batch, sites)
     held = store_lines.hold_sessions(
         store, {key: sites[key[0]] for key in batch.sessions if key[0] in sites}, warm
@@ -288,6 +299,19 @@ def leave_strays(batch: Batch, sites: dict[str, str]) -> None:
             batch.strays.append((one, Wish("reply")))
 
 
+def refuse_strays(store: Database, batch: Batch) -> None:
+    """Answers messages of stations that no site has where as many of them are kept as there may be."""
+    texts = [(one.station, digest_stray(one.text)) for one, _ in batch.strays]
+    above = find_strays_above(store, texts) if texts else set()
+    if not above:
+        return
+    places = {id(one): place for place, one in enumerate(batch.asked)}
+    for one, key in zip([one for one, _ in batch.strays], texts):
+        if key in above:
+            refuse_message(batch, places[id(one)], TOO_MANY_STRAYS)
+    batch.strays = [one for one, key in zip(batch.strays, texts) if key not in above]
+
+
 def refuse_by_quotas(store: Database, batch: Batch, sites: dict[str, str]) -> None:
     """Answers messages that are above a quota of their site, which change nothing."""
     asking = [
@@ -313,9 +337,16 @@ def refuse_by_quotas(store: Database, batch: Batch, sites: dict[str, str]) -> No
                 del batch.sessions[key]
         else:
             batch.others = [other for other in batch.others if other is not one]
-        refusal = describe_message(one.text, name, one.received)
-        batch.refusals.append((one, refusal, refusal.sent_id.lower()))
-        batch.answers[place] = Answer("refused", name, write_reply(one.text, name))
+        refuse_message(batch, place, name)
+
+
+def refuse_message(batch: Batch, place: int, name: str) -> None:
+    """Answers a message that is above the quota of this name."""
+    one = batch.asked[place]
+    assert isinstance(one, Message)
+    refusal = describe_message(one.text, name, one.received)
+    batch.refusals.append((one, refusal, refusal.sent_id.lower()))
+    batch.answers[place] = Answer("refused", name, write_reply(one.text, name))
 
 
 def find_all_rules(store: Database, sites: Iterable[str]) -> dict[str, Rules]:
@@ -506,16 +537,20 @@ def write_refusals(store: Database, batch: Batch) -> None:
         store.execute_each(choose(store_lines.ADD_REFUSAL, store.kind), rows)
 
 
+def digest_stray(text: str) -> str:
+    """By what a text of a station that no site has is known again."""
+    return Refusal(UNKNOWN_STATION, "", "", "", "", text, None).digest
+
+
 def write_strays(store: Database, batch: Batch) -> None:
     """Adds messages of stations that no site has, or counts them where they came before."""
     rows = list[dict[str, Any]]()
     for one, wish in batch.strays:
         named = find_names(one.text)
-        refusal = Refusal(UNKNOWN_STATION, "", "", named.sent_id, "", one.text, None)
         rows.append(
             {
                 "station": one.station,
-                "digest": refusal.digest,
+                "digest": digest_stray(one.text),
                 "site": one.site or "",
                 "transaction": wish.text,
                 "number": wish.number if wish.outcome == "event" else None,

@@ -259,6 +259,14 @@ REMEDIES = {
         "the station sent as much on this day (UTC) as its site's quota allows",
         "look what the station sends; raise the quota by `plan quota` where it is right",
     ),
+    "TooManyMessages": (
+        "the station sent more messages a second, over a minute, than its site's quota allows",
+        "look what the station sends; raise the quota by `plan quota` where it is right",
+    ),
+    "TooManyStrays": (
+        "as many texts of a station that no site has are kept as there may be",
+        "add the station by `plan station`, and have its log read again",
+    ),
     "NoSuchEvent": (
         "the station has no event with this transaction id and this number",
         "compare the id and the number with the board; an event that was refused is not there",

@@ -16,8 +16,9 @@ create table site (
     events int not null default 4096,           -- what a transaction may keep
     readings int not null default 16384,
     most_kw int not null default 400,           -- the greatest power of an EVSE that can be
-    most_open int not null default 0,           -- open transactions of a station, bytes a day; 0: any number
-    most_bytes bigint not null default 0,
+    most_open int not null default 0,           -- open transactions of a station, bytes a day, and messages a second
+    most_bytes bigint not null default 0,       -- at a gateway, over a minute; 0: any number
+    most_rate int not null default 0,
     first_settled_day date,
     place int not null default 0                -- the order of sites on pages
 );

@@ -18,9 +18,9 @@ from ocpp_board.writers.pages.pictures import (
     Text,
     draw_bars,
     draw_lines,
+    draw_picture,
     shorten,
 )
-from ocpp_board.writers.pages.render import render
 
 # Shades of a heat map, and seconds of a unit of a week's picture.
 SHADES, UNIT = 5, 300
@@ -95,16 +95,7 @@ def draw_month(
         texts.append(Text("-5", 18 + row * ROW + 11, f"{day:%a} {day.day}", "end"))
     texts.append(Text("0", height + 32, f"Full shade: {kwh(most)} kWh an hour"))
     texts.append(Text("100%", height + 32, f"Longest: {kwh(longest)} kWh", "end"))
-    return render(
-        "picture.html",
-        label=label,
-        width=wide,
-        height=height + 36,
-        drawn=height,
-        top=18,
-        shapes=Markup("".join(cells())),
-        texts=texts,
-    )
+    return draw_picture(label, wide, height + 36, Markup("".join(cells())), texts, height, 18)
 
 
 def draw_week(

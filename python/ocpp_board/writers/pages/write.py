@@ -24,9 +24,16 @@ from markupsafe import Markup
 
 from ocpp_board.store.database import Database, open_again
 from ocpp_board.writers.calendar import Calendar, find_calendar
-from ocpp_board.writers.pages.context import Context, DayBook, PageOptions
+from ocpp_board.writers.pages.context import Context, PageOptions
+from ocpp_board.writers.pages.day_book import DayBook
 from ocpp_board.writers.pages.day_pages import MOST_STATIONS, make_day_page, make_station_day_page
-from ocpp_board.writers.pages.facts import Found, SessionFacts, Site, StationSummary
+from ocpp_board.writers.pages.facts import (
+    Found,
+    SessionFacts,
+    SessionRecord,
+    Site,
+    StationSummary,
+)
 from ocpp_board.writers.pages.links import FileLinks, FilePaths
 from ocpp_board.writers.pages.list_pages import LIST_ROWS, LISTS, make_list_page
 from ocpp_board.writers.pages.month_pages import find_days, find_months, make_month_page
@@ -88,15 +95,14 @@ class PageWriter:
 
     def put(self, path: str, page: Markup) -> None:
         """Puts a page into its file. Raises OSError."""
-        file = self.out / path
-        made = file.with_name(f".{file.name}.made")
-        data = page.encode()
+        folder, name = os.path.split(f"{self.out}/{path}")
+        made, data = f"{folder}/.{name}.made", page.encode()
         try:
-            made.write_bytes(data)
+            write_file(made, data)
         except FileNotFoundError:
-            file.parent.mkdir(parents=True, exist_ok=True)
-            made.write_bytes(data)
-        os.replace(made, file)
+            os.makedirs(folder, exist_ok=True)
+            write_file(made, data)
+        os.replace(made, f"{folder}/{name}")
         self.count += 1
 
     # All --------------------------------------------------------------------------------------------------------------
@@ -120,27 +126,29 @@ class PageWriter:
     def write_share(self, part: Share) -> None:
         """Writes the pages of a site or of one of its stations."""
         site, station = part
+        history = self.book.open_history(site, station) if station is not None else None
+        for month in find_months(self.open_context("index.html"), site, station):
+            if history:
+                history.open_month(month)
+            self.write_months(site, station, [month])
+            days = find_days(self.open_context("index.html"), site, station, month)
+            self.write_days(site, station, days)
         if station is None:
             self.write_site(site)
             for name in LISTS:
                 self.write_list(site, name)
         else:
-            summary = self.find_summary(site, station)
-            self.write(
-                PATHS.station(site.name, station),
-                lambda context: make_station_page(context, site, summary),
-            )
-        months = find_months(self.open_context("index.html"), site, station)
-        self.write_months(site, station, months)
-        for month in months:
-            days = find_days(self.open_context("index.html"), site, station, month)
-            self.write_days(site, station, days)
+            self.write_station_page(site, station)
+            self.write_all_sessions(site, station)
         self.book.made.clear()
-        if station is not None:
-            findings = group_findings(self.find_summary(site, station).found)
-            for session in self.reader.station_sessions(site.name, station):
-                key = session.station, session.transaction_id
-                self.write_session(site, session, findings.get(key, ()))
+        self.book.history = None
+
+    def write_all_sessions(self, site: Site, station: str) -> None:
+        """Writes the pages of all transactions of a station."""
+        findings = group_findings(self.find_summary(site, station).found)
+        for session, record in self.reader.station_records(site.name, station):
+            found = findings.get((station, session.transaction_id), ())
+            self.write_session(site, session, found, record)
 
     def write_index(self, sites: Sequence[Site], changed: Collection[str] | None = None) -> None:
         """Writes the page of all sites. `changed`: those that changed; None for all. Raises OSError."""
@@ -201,11 +209,17 @@ class PageWriter:
                 return
         (self.out / PATHS.listing(site.name, name, number)).unlink(missing_ok=True)
 
-    def write_session(self, site: Site, session: SessionFacts, findings: Sequence[Found]) -> None:
-        """Writes the page of a transaction."""
+    def write_session(
+        self,
+        site: Site,
+        session: SessionFacts,
+        findings: Sequence[Found],
+        record: SessionRecord | None = None,
+    ) -> None:
+        """Writes the page of a transaction. `record`: what was read of it."""
         self.write(
             PATHS.session(site.name, session.station, session.transaction_id),
-            lambda context: make_session_page(context, site, session, findings),
+            lambda context: make_session_page(context, site, session, findings, record),
         )
 
     # What changed -----------------------------------------------------------------------------------------------------
@@ -285,13 +299,17 @@ class PageWriter:
 
     def write_station(self, site: Site, station: str, days: set[date]) -> None:
         """Writes the pages of a station that changed on these days."""
+        self.write_station_page(site, station)
+        self.write_months(site, station, list_months(days))
+        self.write_days(site, station, filter(self.is_shown, days))
+
+    def write_station_page(self, site: Site, station: str) -> None:
+        """Writes the page of a station."""
         summary = self.find_summary(site, station)
         self.write(
             PATHS.station(site.name, station),
             lambda context: make_station_page(context, site, summary),
         )
-        self.write_months(site, station, list_months(days))
-        self.write_days(site, station, filter(self.is_shown, days))
 
     def write_site_changed(
         self,
@@ -332,6 +350,12 @@ class PageWriter:
 
 
 MOST_SPAN_LINES = 600
+
+
+def write_file(path: str, data: bytes) -> None:
+    """Writes a file. Raises OSError."""
+    with open(path, "wb") as file:
+        file.write(data)
 
 
 def find_now(options: PageOptions) -> datetime:
