@@ -23,7 +23,7 @@ PLAIN = re.compile(
     r"20[0-9]{2}-[0-9]{2}-[0-9]{2}T(?:[01][0-9]|2[0-3]):[0-5][0-9]:[0-5][0-9](?:\.[0-9]+)?Z"
 )
 SECONDS = len("2026-03-01T10:00:00")
-# Bytes that a character has at most, and what stands before a message in the line of a script.
+# Bytes that a character has at most, and what is before a message in the line of a script.
 MOST_BYTES, FRONT = 4, len("deliver  ") + 48
 # Characters of a line that can't be taken which are kept.
 LONGEST_TEXT = 4_096
