@@ -234,7 +234,7 @@ def faults_of_lines(program: str) -> None:
 
 
 def operator_delivers_and_asks(program: str) -> None:
-    """What became of a message that an operator delivers, and what a text asks for: a station's own are repeats then."""
+    """What becomes of a message that an operator delivers, and what a text asks for; then the station's own repeat."""
     heartbeat = '[2,"h","Heartbeat",{}]'
     other = event(1, "Updated", "2026-03-01T10:14:00Z", 1300).decode()
     with Live(program) as server:

@@ -8,11 +8,10 @@ import sys
 import time
 import zlib
 from collections.abc import Iterator, Sequence
-from dataclasses import dataclass, field, fields
+from dataclasses import dataclass, field
 from datetime import datetime
 from io import BufferedReader
-from operator import attrgetter
-from typing import IO, Any
+from typing import IO
 
 from ocpp_board import progress
 from ocpp_board.commands.loading import BATCH, Declared
@@ -21,7 +20,7 @@ from ocpp_board.errors import UsageError
 from ocpp_board.escapes import shown
 from ocpp_board.limits import LONGEST_LINE
 from ocpp_board.messages.texts import Refused
-from ocpp_board.records import Asked, Deed, LeftOut, Message, Rules, Untaken
+from ocpp_board.records import Asked, LeftOut, Rules, Untaken
 from ocpp_board.sources.files import open_input, read_lines, unpack
 from ocpp_board.sources.forms import Shape
 from ocpp_board.sources.lines import FORMS as WORDS
@@ -37,8 +36,6 @@ PAUSE, LINES = 1.0, 4_096
 FRONT = 262_400
 # The words with which lines of scripts begin.
 SCRIPT = tuple(f"{word} ".encode() for word in WORDS)
-RECORDS: tuple[Any, ...] = (Message, Deed, Untaken)
-FIELDS = {kind: attrgetter(*(one.name for one in fields(kind))) for kind in RECORDS}
 
 
 @dataclass(frozen=True)
@@ -63,16 +60,6 @@ class Batch:
     untaken: int = 0
     # Stations that were left out for their version.
     left_out: list[LeftOut] = field(default_factory=list)
-
-    def __getstate__(self) -> tuple[Any, ...]:
-        """What goes to another process: records as plain tuples."""
-        rows = [(RECORDS.index(type(one)), FIELDS[type(one)](one)) for one in self.records]
-        return rows, self.site_of, self.rules, self.lines, self.untaken, self.left_out
-
-    def __setstate__(self, state: tuple[Any, ...]) -> None:
-        """What came from another process."""
-        rows, self.site_of, self.rules, self.lines, self.untaken, self.left_out = state
-        self.records = [RECORDS[kind](*values) for kind, values in rows]
 
 
 class Meter:

@@ -12,7 +12,7 @@ from ocpp_board.store.database import Row
 
 # The orders that a transaction may have, and first none of its own.
 OWN_ORDERS = ("", *ORDERS)
-# Bytes of a script at which another one begins.
+# Bytes of a script: after so many another one begins.
 MOST_BYTES = 32 * 1_048_576
 
 

@@ -242,9 +242,9 @@ REMEDIES = {
     "Format": ("the payload is no object", "an object as the fourth element"),
     "ConflictingEvent": (
         "this transaction already has an event with this seqNo and another kind, time, EVSE or other readings",
-        "where the station used the id again for another session: in a store `ocpp-board take STATION ID --as OTHER-ID "
-        "--why ..`; where the stored one is wrong: void and erase it (`operate void`, `operate erase`), then send this "
-        "one again, or `take` it; else leave it out, or `take --leave`",
+        "where the station used the id again for another session: `ocpp-board take STATION ID --as OTHER-ID --why ..` "
+        "of a store; where the stored one is wrong: void and erase it (`operate void`, `operate erase`), then send "
+        "this one again, or `take` it; else leave it out, or `take --leave`",
     ),
     "TooManyTransactions": (
         "the station has as many transactions as its limits allow",

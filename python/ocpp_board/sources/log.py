@@ -29,7 +29,7 @@ PLAIN = re.compile(
     r"20[0-9]{2}-[0-9]{2}-[0-9]{2}T(?:[01][0-9]|2[0-3]):[0-5][0-9]:[0-5][0-9](?:\.[0-9]+)?Z"
 )
 SECONDS = len("2026-03-01T10:00:00")
-# Bytes that a character has at most, and what stands before a message in the line of a script.
+# Bytes that a character has at most, and what is before a message in the line of a script.
 MOST_BYTES, FRONT = 4, len("deliver  ") + 48
 # The version of messages of actions that only OCPP 1.6 has, and characters of a version that are kept.
 OLD_VERSION, LONGEST_VERSION = "ocpp1.6", 40

@@ -27,8 +27,8 @@ TEXT_VALUE, NO_OFFSET = "text-value", "no-offset"
 # units in other letters, in MWh or beside the value, a listed reading of no time from 2000 to 2099, a small negative
 # value, blanks and braces in an id,
 UNIT, LISTED_TIME, NEGATIVE, IDS = "unit", "listed-time", "negative", "ids"
-# EVSE 0 and numbers above 64, a begin listed at the end's time, more readings than a message may have, and times of a
-# clock that is not set.
+# EVSE 0 and numbers above 64, a begin listed at the end's time, more readings than a message may have, and the times of
+# a clock that is not set.
 EVSE, BEGIN, PARTED, UNSET_CLOCK = "evse", "begin-at-end", "parted", "unset-clock"
 # A comment of a script that has a message as it came: the faults, the station and the message.
 COMMENT = b"# mended "
