@@ -12,9 +12,9 @@ PATH = re.compile(
     r"(?<![\w/.-])((?:crates|docs|examples|packaging|python|tests)/[\w./-]+)(?![\w*{<])"
 )
 BUILT = re.compile(r"/out(/|$)")
-# A program of a build, and the command that proves, builds and runs one.
+# A program of a build, and the line of `start` that names the one that it builds.
 PROGRAM = re.compile(r"crates/(\w+)/out/(\w+)")
-BUILD = re.compile(r"cd crates/(\w+) && rt run")
+BUILD = re.compile(r"^program=crates/(\w+)/out/", re.MULTILINE)
 TOOL = re.compile(r"ocpp-board ([a-z][a-z-]+)")
 CODE = re.compile(r"`([^`\n]+)`")
 # A command of the tests, and its options.

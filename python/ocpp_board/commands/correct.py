@@ -1,4 +1,4 @@
-"""Correct a reading: void its event, erase it, and deliver the message with the right reading, in one step.
+"""Corrects a reading: voids its event, erases it, and delivers the message with the right reading, in one step.
 
     ocpp-board correct --store ledger.db CS-01 T-4711 3 0 --kwh 4711.5 --why "read at the meter"
     ocpp-board correct --store ledger.db --table corrections.csv --why "meter class exchanged" --preview

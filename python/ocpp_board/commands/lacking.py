@@ -1,4 +1,4 @@
-"""List sessions that lack messages and went silent, for an alert and for GetTransactionStatus.
+"""Lists sessions that lack messages and went silent, for an alert and for GetTransactionStatus.
 
     ocpp-board lacking --store ledger.db --hours 24
 

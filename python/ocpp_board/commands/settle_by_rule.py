@@ -1,4 +1,4 @@
-"""Settle sessions that stay incomplete, in bulk: those of which nothing came for so many days.
+"""Settles sessions that stay incomplete, in bulk: those that sent nothing for so many days.
 
     ocpp-board settle-by-rule --store ledger.db --site north --days 30 --why "the contract's clearing period" --preview
 

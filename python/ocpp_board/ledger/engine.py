@@ -16,7 +16,14 @@ from typing import Any, NamedTuple, Protocol
 
 from ocpp_board.ledger.answers import Wish
 from ocpp_board.ledger.program import find_program
-from ocpp_board.ledger.quotas import Asking, find_refused, write_reply
+from ocpp_board.ledger.quotas import (
+    FLOODS,
+    TOO_MANY_STRAYS,
+    Asking,
+    find_refused,
+    find_strays_above,
+    write_reply,
+)
 from ocpp_board.ledger.refusals import (
     CONFLICT,
     UNKNOWN_STATION,
@@ -44,6 +51,8 @@ from ocpp_board.store.plan import RULES_COLUMNS, Author, lock_sites, read_rules,
 
 # An origin that is a place in a file, such as `csms.log:17`.
 PLACE = re.compile(r"(?!.*://).*:[0-9]+")
+# What became of texts that were refused and taken after all.
+TAKEN, MENDED = "taken", "mended"
 # Texts that a process of a pool is asked at once, and the size of the works that it gets at once.
 TEXTS_AT_ONCE, BYTES_AT_ONCE = 2_000, 1_048_576
 # Transactions that are computed again at once where rules change.
@@ -56,6 +65,14 @@ class Pool(Protocol):
 
     def imap(self, function: Any, pieces: Iterable[Any], /) -> Iterator[Any]:
         """What the function makes of each piece, in their order."""
+
+
+class Decided(NamedTuple):
+    """A text that waited for a decision, by its digest, and what became of it."""
+
+    station: str
+    digest: str
+    decision: str
 
 
 @dataclass(slots=True)
@@ -74,6 +91,8 @@ class Batch:
     others: list[Message] = field(default_factory=list)
     # Messages that were mended, each with what it asks for.
     mended: list[tuple[Message, Wish]] = field(default_factory=list)
+    # Texts that waited for a decision and were taken after all, and what became of them.
+    decided: list[Decided] = field(default_factory=list)
 
 
 # What will become of transactions: their works, and what is done of them.
@@ -169,6 +188,10 @@ def sort_asked(batch: Batch) -> None:
 
 def sort_message(batch: Batch, place: int, one: Message, wish: Wish) -> None:
     """Sorts a message by what it asks for."""
+    if one.quota and wish.outcome in ("event", "reply"):
+        batch.replied[place] = one
+        refuse_message(batch, place, one.quota)
+        return
     if wish.outcome == "event":
         batch.sessions.setdefault((one.station, wish.text), []).append(place)
         return
@@ -219,6 +242,7 @@ def write_batch(
     """Writes what a batch changes, within a database transaction, and answers the rest of it."""
     sites = hold_sites(store, batch)
     leave_strays(batch, sites)
+    refuse_strays(store, batch)
     refuse_by_quotas(store, batch, sites)
     held = store_lines.hold_sessions(
         store, {key: sites[key[0]] for key in batch.sessions if key[0] in sites}, warm
@@ -231,6 +255,7 @@ def write_batch(
         take_answers(writer, batch, work, done, held[key], deeds)
     writer.write()
     write_refusals(store, batch)
+    write_decided(store, batch)
     write_strays(store, batch)
     write_mended(store, batch)
     write_levels(store, batch, sites)
@@ -288,6 +313,19 @@ def leave_strays(batch: Batch, sites: dict[str, str]) -> None:
             batch.strays.append((one, Wish("reply")))
 
 
+def refuse_strays(store: Database, batch: Batch) -> None:
+    """Answers messages of stations that no site has where as many of them are kept as there may be."""
+    texts = [(one.station, digest_stray(one.text)) for one, _ in batch.strays]
+    above = find_strays_above(store, texts) if texts else set()
+    if not above:
+        return
+    places = {id(one): place for place, one in enumerate(batch.asked)}
+    for one, key in zip([one for one, _ in batch.strays], texts):
+        if key in above:
+            refuse_message(batch, places[id(one)], TOO_MANY_STRAYS)
+    batch.strays = [one for one, key in zip(batch.strays, texts) if key not in above]
+
+
 def refuse_by_quotas(store: Database, batch: Batch, sites: dict[str, str]) -> None:
     """Answers messages that are above a quota of their site, which change nothing."""
     asking = [
@@ -313,9 +351,16 @@ def refuse_by_quotas(store: Database, batch: Batch, sites: dict[str, str]) -> No
                 del batch.sessions[key]
         else:
             batch.others = [other for other in batch.others if other is not one]
-        refusal = describe_message(one.text, name, one.received)
-        batch.refusals.append((one, refusal, refusal.sent_id.lower()))
-        batch.answers[place] = Answer("refused", name, write_reply(one.text, name))
+        refuse_message(batch, place, name)
+
+
+def refuse_message(batch: Batch, place: int, name: str) -> None:
+    """Answers a message that is above the quota of this name."""
+    one = batch.asked[place]
+    assert isinstance(one, Message)
+    refusal = describe_message(one.text, name, one.received)
+    batch.refusals.append((one, refusal, refusal.sent_id.lower()))
+    batch.answers[place] = Answer("refused", name, write_reply(one.text, name))
 
 
 def find_all_rules(store: Database, sites: Iterable[str]) -> dict[str, Rules]:
@@ -420,6 +465,7 @@ def take_answers(
 ) -> None:
     """Notes the answers to a transaction's lines, and has its lines and rows written."""
     key, store, taken = (work.station, work.transaction), writer.store, set[int]()
+    waiting = {row.digest for row in held.refusals}
     places = [place for place in batch.sessions[key] if place not in deeds]
     for place, (outcome, name, reply, change) in zip(places, done.answers):
         batch.answers[place] = Answer(outcome, name, reply, key[1], change)
@@ -427,6 +473,12 @@ def take_answers(
         if isinstance(one, Message):
             if outcome in ("accepted", "repeat"):
                 taken.add(batch.wishes[place].number)
+                if one.came:
+                    batch.decided.append(
+                        Decided(one.station, digest_text(keep_text(one.came)), MENDED)
+                    )
+                elif waiting and (digest := digest_text(keep_text(one.text))) in waiting:
+                    batch.decided.append(Decided(one.station, digest, TAKEN))
             elif outcome in ("refused", "fault"):
                 refusal = describe_message(one.text, name, one.received)
                 batch.refusals.append((one, refusal, key[1]))
@@ -480,7 +532,7 @@ def write_refusals(store: Database, batch: Batch) -> None:
     kept, rows = dict[tuple[str, str], set[str]](), list[dict[str, Any]]()
     for one, refusal, transaction in batch.refusals:
         kind = one.station, refusal.cause
-        if kind not in kept:
+        if refusal.cause in FLOODS and kind not in kept:
             kept[kind] = store_lines.find_digests(store, *kind)
         row = {
             "station": one.station,
@@ -497,13 +549,29 @@ def write_refusals(store: Database, batch: Batch) -> None:
             "origins": name_place(one.origin),
             "at": refusal.at,
         }
-        if len(kept[kind]) >= store_lines.MOST_TEXTS and refusal.digest not in kept[kind]:
+        own = kept.get(kind, set())
+        if len(own) >= store_lines.MOST_TEXTS and refusal.digest not in own:
             row |= {"digest": store_lines.MANY, "transaction": "", "number": None, "sent_id": ""}
             row |= {"sent_number": "", "what": store_lines.ONE_OF_MANY}
-        kept[kind].add(str(row["digest"]))
+        own.add(str(row["digest"]))
         rows.append(row)
     if rows:
         store.execute_each(choose(store_lines.ADD_REFUSAL, store.kind), rows)
+
+
+def write_decided(store: Database, batch: Batch) -> None:
+    """Notes that texts which waited for a decision were taken."""
+    now = datetime.now(timezone.utc)
+    if batch.decided:
+        store.execute_each(
+            store_lines.DECIDE,
+            [one._asdict() | {"at": now, "who": "", "why": ""} for one in batch.decided],
+        )
+
+
+def digest_stray(text: str) -> str:
+    """By what a text of a station that no site has is known again."""
+    return Refusal(UNKNOWN_STATION, "", "", "", "", text, None).digest
 
 
 def write_strays(store: Database, batch: Batch) -> None:
@@ -511,11 +579,10 @@ def write_strays(store: Database, batch: Batch) -> None:
     rows = list[dict[str, Any]]()
     for one, wish in batch.strays:
         named = find_names(one.text)
-        refusal = Refusal(UNKNOWN_STATION, "", "", named.sent_id, "", one.text, None)
         rows.append(
             {
                 "station": one.station,
-                "digest": refusal.digest,
+                "digest": digest_stray(one.text),
                 "site": one.site or "",
                 "transaction": wish.text,
                 "number": wish.number if wish.outcome == "event" else None,
@@ -587,21 +654,24 @@ def compute_again(store: Database, site: str, rules: Rules) -> int:
         if not rows:
             return count
         keys = [(row.station, row.transaction_id) for row in rows]
-        held = store_lines.hold_sessions(store, dict.fromkeys(keys, site))
-        no_lines = list[Line]()
-        works = {
-            key: Work(
-                *(*key, site, rules, one.lines, no_lines),
-                list_conflicts(key, one),
-                True,
-            )
-            for key, one in held.items()
-        }
-        writer = Writer(store)
-        for key, work, done in work_on(works, None):
-            write_rows(writer, work, held[key], done)
-        writer.write()
+        renew_sessions(store, dict.fromkeys(keys, site), {site: rules})
         count, after = count + len(keys), keys[-1]
+
+
+def renew_sessions(
+    store: Database, sites: dict[Key, str], rules: dict[str, Rules] | None = None
+) -> None:
+    """Computes the rows of transactions again, within a database transaction. `sites`: those of the transactions."""
+    rules = rules or find_all_rules(store, set(sites.values()))
+    held = store_lines.hold_sessions(store, sites)
+    works = {
+        key: Work(*key, one.site, rules[one.site], one.lines, [], list_conflicts(key, one), True)
+        for key, one in held.items()
+    }
+    writer = Writer(store)
+    for key, work, done in work_on(works, None):
+        write_rows(writer, work, held[key], done)
+    writer.write()
 
 
 def take_strays(

@@ -10,7 +10,7 @@ from ocpp_board.limits import GREATEST_LIMITS, MOST_READINGS, MOST_STATIONS
 from ocpp_board.records import Rules
 from ocpp_board.store.database import Row
 
-# Bytes of a script at which another one begins.
+# Bytes of a script: after so many another one begins.
 MOST_BYTES = 32 * 1_048_576
 
 

@@ -40,6 +40,20 @@ SOURCES = (
 PARTITIONS = 16
 # Seconds that a writer waits for another one.
 PATIENCE = 60
+# When a network that is cut counts as such, for this side, where the store's name says nothing of it, and for the
+# server, which holds locks for a connection as long as it knows no better.
+NETWORK = {
+    "connect_timeout": 10,
+    "keepalives_idle": 5,
+    "keepalives_interval": 3,
+    "keepalives_count": 3,
+    "tcp_user_timeout": 10_000,
+}
+# To compile a plan over all partitions takes far longer than to run it.
+SETTINGS = """
+set time zone 'UTC'; set jit = off; set tcp_keepalives_idle = 10; set tcp_keepalives_interval = 5;
+set tcp_keepalives_count = 3; set tcp_user_timeout = 30000
+"""
 MARK = re.compile(r"/\*(sqlite|postgresql) (.*?)\*/", re.DOTALL)
 # A text in quotes, in which nothing is a comment, or a comment.
 COMMENT = re.compile(r"('(?:[^'])*')|--[^\n]*")
@@ -298,12 +312,13 @@ class PostgresDatabase(Database):
                 "a store in PostgreSQL needs psycopg 3 (Debian: apt-get install python3-psycopg)"
             )
         try:
+            more: dict[str, Any] = {
+                name: value for name, value in NETWORK.items() if f"{name}=" not in url
+            }
             self.connection = psycopg.connect(
-                url, autocommit=True, row_factory=namedtuple_row, prepare_threshold=2
+                url, autocommit=True, row_factory=namedtuple_row, prepare_threshold=2, **more
             )
-            self.connection.execute("set time zone 'UTC'")
-            # To compile a plan over all partitions takes far longer than to run it.
-            self.connection.execute("set jit = off")
+            self.connection.execute(SETTINGS)
         except psycopg.Error as fault:
             raise StoreAway(f"the store can't be reached: {' '.join(str(fault).split())}") from None
         self.url = url

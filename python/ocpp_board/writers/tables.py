@@ -71,6 +71,7 @@ REFUSED = [
     "cause",
     "what",
     "advice",
+    "decision",
 ]
 OPERATOR = ["time (UTC)", "who", "what", "site", "station", "transaction", "seqNo", "why", "answer"]
 MENDED = ["time (UTC)", "site", "station", "transaction", "seqNo", "mended", "as it came"]
@@ -724,8 +725,14 @@ def write_refusal(row: Row, raw: bool) -> list[Cell]:
     """The cells of what was refused."""
     texts = (row.site, row.station, row.sent_id, row.sent_number or "")
     front: list[Cell] = [write_utc(row.first_at), write_utc(row.last_at), row.times]
-    words = (*texts, row.cause, row.what, row.advice)
+    words = (*texts, row.cause, row.what, row.advice, describe_decision(row))
     return front + [text if raw else csv_cell(text) for text in words]
+
+
+def describe_decision(row: Row) -> str:
+    """What somebody decided about what was refused; empty while it waits."""
+    why = f": {row.decided_why}" if row.decided_why else ""
+    return f"{row.decision} by {row.decided_by}{why}" if row.decided_by else str(row.decision)
 
 
 def read_signed(text: str) -> list[Signed]:

@@ -12,7 +12,7 @@ from collections.abc import Iterator
 from typing import Any
 
 NONE, HASH, PLAIN = TOKENS = ("none", "hash", "plain")
-# What stands in place of a token.
+# What is in place of a token.
 HIDDEN, CUT = "***", "... (cut: there may be a token)"
 MEMBERS = frozenset(["idtoken", "additionalidtoken", "groupidtoken", "idtag", "parentidtag"])
 STRING = re.compile(r'"(?:[^"\\]|\\.)*+"')
