@@ -29,6 +29,7 @@ COMMANDS = {
     "plan": "shows and changes sites, stations, passwords and operators",
     "operator": "says who may use web: operators, passwords, tokens",
     "operate": "voids, restores and erases events",
+    "take": "takes messages that were refused, or leaves them out",
     "close-day": "closes a site's settlement days",
     "corrections": "lists what closings changed of settled figures",
     "correct": "corrects readings: void, erasure and the right message in one step",

@@ -8,8 +8,7 @@ from typing import NamedTuple
 DEEDS = ("void", "restore", "erase")
 
 
-@dataclass(frozen=True, slots=True)
-class Message:
+class Message(NamedTuple):
     """A text of a station. `origin`: where it is from, for errors and repeats, such as `csms.log:17`; `site`: the site
     that the source names, which the plan may not have. `mends`: the faults that were mended in it, and `came`: the text
     as the station sent it, where some were. `quota`: the one that its source found it above, by which it is refused.
@@ -25,8 +24,7 @@ class Message:
     quota: str = ""
 
 
-@dataclass(frozen=True, slots=True)
-class Deed:
+class Deed(NamedTuple):
     """An operator's line. `word`: one of DEEDS; `number`: the event's sequence number."""
 
     word: str
@@ -39,8 +37,7 @@ class Deed:
     origin: str
 
 
-@dataclass(frozen=True, slots=True)
-class Untaken:
+class Untaken(NamedTuple):
     """What a source can't take: the line's text, the cause in words, and what to do. Texts are empty where they are
     not known. `cause`: the name under which it is listed."""
 

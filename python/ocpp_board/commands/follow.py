@@ -245,8 +245,8 @@ class FollowedLog:
             return
         if read.note:
             self.report(f"{self.path}: {read.note}")
-        if read.message:
-            records.append(replace(read.message, origin=f"{self.path}, byte {at}"))
+        for message in read.messages:
+            records.append(replace(message, origin=f"{self.path}, byte {at}"))
         if entry := self.reader.entry:
             moment = f" at {shown(entry.time)[1:-1]}" if entry.time else ""
             self.last = f"{shown(entry.station)[1:-1]}{moment}"

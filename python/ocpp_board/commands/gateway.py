@@ -82,6 +82,18 @@ def add_words(parser: argparse.ArgumentParser) -> None:
         help="let each station of the plan in without a password, as in a laboratory",
     )
     parser.add_argument(
+        "--keep-refused",
+        action="store_true",
+        help="answer {} to a message that conflicts with a stored one or is above a limit, once its text is in the "
+        "store: a station that is refused drops its copy after some attempts. `ocpp-board take` has such texts",
+    )
+    parser.add_argument(
+        "--ocpp2.1",
+        dest="pilot",
+        action="store_true",
+        help="for pilots: let stations speak OCPP 2.1, too; of its messages those that 2.0.1 has are taken",
+    )
+    parser.add_argument(
         "--metrics",
         metavar="PORT",
         type=read_place,

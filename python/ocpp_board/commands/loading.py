@@ -69,7 +69,8 @@ class Declared:
 
 class Loader:
     """Takes records into a store. `counts`: how many of them became what; `changed`: the stations and transactions that
-    something was accepted of, and the stations of which something was refused, with no transaction.
+    something was accepted of, and the stations of which something was refused, with no transaction; what processes
+    settle is not in it.
     """
 
     def __init__(
@@ -83,7 +84,7 @@ class Loader:
         """`pool`: processes that share the work of a batch; `settlers`: processes that settle what `submit` gets."""
         self.store, self.wanted, self.author, self.pool = store, wanted, author, pool
         self.settlers = settlers
-        self.under_way = deque[tuple[list[Asked], Pending]]()
+        self.under_way = deque[Pending]()
         self.counts = Counter[str]()
         self.changed = set[tuple[str, str | None]]()
         self.site_of = {
@@ -136,20 +137,14 @@ class Loader:
         if self.settlers is None:
             self.settle(asked)
             return
-        self.under_way.append((asked, self.settlers.submit(asked)))
+        self.under_way.append(self.settlers.submit(asked))
         if len(self.under_way) > MOST_UNDER_WAY:
-            self.take_answers()
-
-    def take_answers(self) -> None:
-        """Waits for the answers to the records that were submitted first."""
-        asked, pending = self.under_way.popleft()
-        for one, answer in zip(asked, pending.get()):
-            self.note(one.station, answer)
+            self.counts += self.under_way.popleft().get()
 
     def finish(self) -> None:
-        """Waits for the answers to all records."""
+        """Waits for what was submitted."""
         while self.under_way:
-            self.take_answers()
+            self.counts += self.under_way.popleft().get()
 
     def note(self, station: str, answer: Answer) -> None:
         """Counts an answer, and notes what it changed."""

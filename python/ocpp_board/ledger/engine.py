@@ -17,6 +17,7 @@ from typing import Any, NamedTuple, Protocol
 from ocpp_board.ledger.answers import Wish
 from ocpp_board.ledger.program import find_program
 from ocpp_board.ledger.quotas import (
+    FLOODS,
     TOO_MANY_STRAYS,
     Asking,
     find_refused,
@@ -50,6 +51,8 @@ from ocpp_board.store.plan import RULES_COLUMNS, Author, lock_sites, read_rules,
 
 # An origin that is a place in a file, such as `csms.log:17`.
 PLACE = re.compile(r"(?!.*://).*:[0-9]+")
+# What became of texts that were refused and taken after all.
+TAKEN, MENDED = "taken", "mended"
 # Texts that a process of a pool is asked at once, and the size of the works that it gets at once.
 TEXTS_AT_ONCE, BYTES_AT_ONCE = 2_000, 1_048_576
 # Transactions that are computed again at once where rules change.
@@ -62,6 +65,14 @@ class Pool(Protocol):
 
     def imap(self, function: Any, pieces: Iterable[Any], /) -> Iterator[Any]:
         """What the function makes of each piece, in their order."""
+
+
+class Decided(NamedTuple):
+    """A text that waited for a decision, by its digest, and what became of it."""
+
+    station: str
+    digest: str
+    decision: str
 
 
 @dataclass(slots=True)
@@ -80,6 +91,8 @@ class Batch:
     others: list[Message] = field(default_factory=list)
     # Messages that were mended, each with what it asks for.
     mended: list[tuple[Message, Wish]] = field(default_factory=list)
+    # Texts that waited for a decision and were taken after all, and what became of them.
+    decided: list[Decided] = field(default_factory=list)
 
 
 # What will become of transactions: their works, and what is done of them.
@@ -242,6 +255,7 @@ def write_batch(
         take_answers(writer, batch, work, done, held[key], deeds)
     writer.write()
     write_refusals(store, batch)
+    write_decided(store, batch)
     write_strays(store, batch)
     write_mended(store, batch)
     write_levels(store, batch, sites)
@@ -451,6 +465,7 @@ def take_answers(
 ) -> None:
     """Notes the answers to a transaction's lines, and has its lines and rows written."""
     key, store, taken = (work.station, work.transaction), writer.store, set[int]()
+    waiting = {row.digest for row in held.refusals}
     places = [place for place in batch.sessions[key] if place not in deeds]
     for place, (outcome, name, reply, change) in zip(places, done.answers):
         batch.answers[place] = Answer(outcome, name, reply, key[1], change)
@@ -458,6 +473,12 @@ def take_answers(
         if isinstance(one, Message):
             if outcome in ("accepted", "repeat"):
                 taken.add(batch.wishes[place].number)
+                if one.came:
+                    batch.decided.append(
+                        Decided(one.station, digest_text(keep_text(one.came)), MENDED)
+                    )
+                elif waiting and (digest := digest_text(keep_text(one.text))) in waiting:
+                    batch.decided.append(Decided(one.station, digest, TAKEN))
             elif outcome in ("refused", "fault"):
                 refusal = describe_message(one.text, name, one.received)
                 batch.refusals.append((one, refusal, key[1]))
@@ -511,7 +532,7 @@ def write_refusals(store: Database, batch: Batch) -> None:
     kept, rows = dict[tuple[str, str], set[str]](), list[dict[str, Any]]()
     for one, refusal, transaction in batch.refusals:
         kind = one.station, refusal.cause
-        if kind not in kept:
+        if refusal.cause in FLOODS and kind not in kept:
             kept[kind] = store_lines.find_digests(store, *kind)
         row = {
             "station": one.station,
@@ -528,13 +549,24 @@ def write_refusals(store: Database, batch: Batch) -> None:
             "origins": name_place(one.origin),
             "at": refusal.at,
         }
-        if len(kept[kind]) >= store_lines.MOST_TEXTS and refusal.digest not in kept[kind]:
+        own = kept.get(kind, set())
+        if len(own) >= store_lines.MOST_TEXTS and refusal.digest not in own:
             row |= {"digest": store_lines.MANY, "transaction": "", "number": None, "sent_id": ""}
             row |= {"sent_number": "", "what": store_lines.ONE_OF_MANY}
-        kept[kind].add(str(row["digest"]))
+        own.add(str(row["digest"]))
         rows.append(row)
     if rows:
         store.execute_each(choose(store_lines.ADD_REFUSAL, store.kind), rows)
+
+
+def write_decided(store: Database, batch: Batch) -> None:
+    """Notes that texts which waited for a decision were taken."""
+    now = datetime.now(timezone.utc)
+    if batch.decided:
+        store.execute_each(
+            store_lines.DECIDE,
+            [one._asdict() | {"at": now, "who": "", "why": ""} for one in batch.decided],
+        )
 
 
 def digest_stray(text: str) -> str:
@@ -622,21 +654,24 @@ def compute_again(store: Database, site: str, rules: Rules) -> int:
         if not rows:
             return count
         keys = [(row.station, row.transaction_id) for row in rows]
-        held = store_lines.hold_sessions(store, dict.fromkeys(keys, site))
-        no_lines = list[Line]()
-        works = {
-            key: Work(
-                *(*key, site, rules, one.lines, no_lines),
-                list_conflicts(key, one),
-                True,
-            )
-            for key, one in held.items()
-        }
-        writer = Writer(store)
-        for key, work, done in work_on(works, None):
-            write_rows(writer, work, held[key], done)
-        writer.write()
+        renew_sessions(store, dict.fromkeys(keys, site), {site: rules})
         count, after = count + len(keys), keys[-1]
+
+
+def renew_sessions(
+    store: Database, sites: dict[Key, str], rules: dict[str, Rules] | None = None
+) -> None:
+    """Computes the rows of transactions again, within a database transaction. `sites`: those of the transactions."""
+    rules = rules or find_all_rules(store, set(sites.values()))
+    held = store_lines.hold_sessions(store, sites)
+    works = {
+        key: Work(*key, one.site, rules[one.site], one.lines, [], list_conflicts(key, one), True)
+        for key, one in held.items()
+    }
+    writer = Writer(store)
+    for key, work, done in work_on(works, None):
+        write_rows(writer, work, held[key], done)
+    writer.write()
 
 
 def take_strays(

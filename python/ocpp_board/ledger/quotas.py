@@ -15,6 +15,8 @@ from ocpp_board.store.lines import Key
 
 TOO_MANY_OPEN, TOO_MANY_BYTES = "TooManyOpen", "TooManyBytes"
 TOO_MANY_MESSAGES, TOO_MANY_STRAYS = "TooManyMessages", "TooManyStrays"
+# What a station sends too much of: of its refused texts some are kept each.
+FLOODS = frozenset((TOO_MANY_BYTES, TOO_MANY_MESSAGES, TOO_MANY_STRAYS))
 # Texts that are kept of a station that no site has.
 MOST_STRAYS = 50_000
 

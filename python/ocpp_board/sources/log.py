@@ -12,7 +12,7 @@ from ocpp_board.messages.texts import CALL, Refused, has_moment, is_answer
 from ocpp_board.messages.times import seconds_of
 from ocpp_board.records import Message, Untaken
 from ocpp_board.sources.forms import Entry, Shape
-from ocpp_board.sources.mend import Mender
+from ocpp_board.sources.mend import Mended, Mender
 from ocpp_board.sources.stations import NOT_IN, StationPlan
 
 # Seconds since 1970, or thousandths, millionths or billionths of them, and digits of the greatest whole seconds.
@@ -50,6 +50,13 @@ class Read(NamedTuple):
     has_moment: bool = False
     # What is wrong with the line, though its message is taken.
     note: Refused | None = None
+    # The further events of a message that was parted.
+    more: tuple[Message, ...] = ()
+
+    @property
+    def messages(self) -> tuple[Message, ...]:
+        """All messages of the line."""
+        return (self.message, *self.more) if self.message else ()
 
 
 BLANK, OTHER, OLD, ANSWERS, SENT = map(Read, ("blank", "other", "old", "answers", "sent"))
@@ -159,19 +166,21 @@ class LogReader:
             self.plan.admit(site, station)
             return ANSWERS if is_answered else SENT
         needs_time = call is not None and has_moment(call[2])
-        text, mends = entry.message, tuple[str, ...]()
+        found = Mended((entry.message,))
         if site in self.mender.mends:
             received, _ = self.find_moment(entry)
-            text, mends = self.mender.mend(site, station, text, received)
-        text = check_text(station, text)
+            found = self.mender.mend(site, station, entry.message, received)
+        texts, mends = [check_text(station, text) for text in found.texts], ",".join(found.faults)
         self.plan.admit(site, station)
         moment, note = (None, None)
         if needs_time or self.has_times:
             moment, note = self.find_moment(entry)
         origin = f"{self.name}:{number}"
         came = entry.message if mends else ""
-        message = Message(station, text, moment, origin, site or None, ",".join(mends), came)
-        return Read("messages", message, needs_time, note)
+        first, *more = (
+            Message(station, text, moment, origin, site or None, mends, came) for text in texts
+        )
+        return Read("messages", first, needs_time, note, tuple(more))
 
     def find_moment(self, entry: Entry) -> tuple[datetime | None, Refused | None]:
         """The moment of a line, or what is wrong with its time. No message is left out for its time."""

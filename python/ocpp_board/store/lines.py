@@ -22,7 +22,7 @@ SENT = ("stopped_reason", "sent_id", "token", "token_type", "remote_start_id", "
 PART = "starts up down export_up export_down on_board measured shared numbers_missing".split()
 FINDING = "kind times first_at detail".split()
 OF_SESSION = "station = :station and transaction_id = :transaction"
-# Texts of a station and a cause that are kept each; further ones are one row.
+# Texts of a station that sends too much which are kept each; further ones are one row.
 MOST_TEXTS = 1_000
 # The digest of that row, and what it says.
 MANY, ONE_OF_MANY = "many", "one of many"
@@ -61,6 +61,11 @@ values (:station, :cause, :digest, :site, :transaction, :number, :sent_id, :sent
 """ + COUNT_AGAIN.format(
     table="refusal", key="cause, digest", most=LONGEST_ORIGINS
 )
+# What becomes of a refused text that waits.
+DECIDE = """
+update refusal set decision = :decision, decided_at = :at, decided_by = :who, decided_why = :why
+where station = :station and digest = :digest and decision = ''
+"""
 ADD_STRAY = """
 insert into stray (station, digest, site, transaction_id, number, sent_id, text, received, origin, origins, first_at,
     last_at)
@@ -201,12 +206,9 @@ def read_lines(store: Database, keys: Sequence[Key]) -> Iterable[list[Line]]:
 
 
 def read_refusals(store: Database, keys: Sequence[Key]) -> Iterable[list[Row]]:
-    """What was refused of each of these transactions and matters to its rows."""
-    columns, more = (
-        "cause, digest, number, text, times",
-        "and cause in ('ConflictingEvent', 'Untaken')",
-    )
-    return fetch_keyed(store, columns, "refusal", keys, more)
+    """What was refused of each of these transactions and waits for a decision: conflicts matter to its rows."""
+    columns = "cause, digest, number, case when cause = 'ConflictingEvent' then text end as text"
+    return fetch_keyed(store, columns, "refusal", keys, "and decision = ''")
 
 
 # What a process stored last ------------------------------------------------------------------------------------------

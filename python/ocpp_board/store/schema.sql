@@ -181,9 +181,11 @@ create table meter_value (
 
 -- What changed nothing ------------------------------------------------------------------------------------------------
 
--- Messages that were refused and lines that no source could take, each with its text. `digest`: that of text and
--- cause, so the same again is one row; `origins`: the places in files that it was read from, so a file that is read
--- again is not counted again. Beyond so many texts of a station and a cause the text is that of the first one.
+-- Messages that were refused and lines that no source could take, each with its text. `digest`: that of the text, so the
+-- same again is one row of a cause; `origins`: the places in files that it was read from, so a file that is read again
+-- is not counted again. Of messages of a station that sends too much so many are kept each, and the text of further ones is that
+-- of the first one. `decision`: what somebody decided, or the engine where the text was taken after all: `taken`, `taken
+-- as ID`, `mended`, `left out`; empty while it waits.
 create table refusal (
     station text /*postgresql collate "C"*/ not null,
     cause text /*postgresql collate "C"*/ not null,
@@ -200,9 +202,14 @@ create table refusal (
     times bigint not null default 1,
     first_at timestamptz,
     last_at timestamptz,
+    decision text not null default '',
+    decided_at timestamptz,
+    decided_by text not null default '',
+    decided_why text not null default '',
     primary key (station, cause, digest)
 ) /*postgresql partition by hash (station)*/;
 create index refusal_session on refusal (station, transaction_id);
+create index refusal_text on refusal (station, digest);
 -- Messages of stations that no site has. They are taken once the plan has the station.
 create table stray (
     station text /*postgresql collate "C"*/ not null,

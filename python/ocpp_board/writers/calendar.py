@@ -30,6 +30,7 @@ class Calendar:
         self.day = lru_cache(KEPT_MOMENTS)(self.find_day)
         self.stamp_minute = lru_cache(KEPT_MOMENTS)(self.write_stamp_minute)
         self.begin = lru_cache(KEPT_MOMENTS)(self.find_begin)
+        self.hour = lru_cache(KEPT_MOMENTS)(self.find_hour)
 
     def local(self, at: datetime) -> datetime:
         """A moment in the zone."""
@@ -42,6 +43,13 @@ class Calendar:
     def find_begin(self, day: date) -> datetime:
         """The first moment of a day, in UTC."""
         return datetime(day.year, day.month, day.day, tzinfo=self.zone).astimezone(timezone.utc)
+
+    def find_hour(self, at: datetime) -> datetime:
+        """When the hour of the day began that a moment is in."""
+        local = self.local(at)
+        return at - timedelta(
+            minutes=local.minute, seconds=local.second, microseconds=local.microsecond
+        )
 
     def end(self, day: date) -> datetime:
         """The first moment of the day after, in UTC."""

@@ -11,12 +11,14 @@ from markupsafe import Markup
 from ocpp_board.energies import Flow, sum_of
 from ocpp_board.writers.calendar import Calendar, find_calendar, next_month
 from ocpp_board.writers.pages.facts import Period, SessionFacts, Site
-from ocpp_board.writers.pages.months import join_hours
+from ocpp_board.writers.pages.months import HeatRow, join_hours
 from ocpp_board.writers.pages.reader import LONGEST, Reader
 
 # Days that are kept where pages are written again, days of sites with the periods of their stations, and how many days
 # are read one by one.
 MOST_DAYS, MOST_SITE_DAYS, FEW_DAYS = 4_000, 12, 3
+# Days that are kept as heat maps have them.
+MOST_HEAT = 2_000
 
 
 class DayFacts(NamedTuple):
@@ -39,11 +41,11 @@ def find_peak(periods: Iterable[Period]) -> Period | None:
     return most if most and most.flow.net > 0 else None
 
 
-def make_day(periods: Sequence[Period], has_hours: bool = True) -> DayFacts:
-    """Makes what is known of a day of its periods."""
+def make_day(periods: Sequence[Period], calendar: Calendar | None) -> DayFacts:
+    """Makes what is known of a day of its periods; without its hours where there is no calendar."""
     if not periods:
         return NO_DAY
-    hours = join_hours(periods) if has_hours else ()
+    hours = join_hours(periods, calendar) if calendar else ()
     return DayFacts(hours, sum_of(p.flow for p in periods), len(periods), find_peak(periods))
 
 
@@ -93,7 +95,7 @@ class SiteDay:
     def find_facts(self, station: str) -> DayFacts:
         """Finds the energy and the greatest power of a station."""
         if station not in self.facts:
-            self.facts[station] = make_day(self.stations.get(station, ()), has_hours=False)
+            self.facts[station] = make_day(self.stations.get(station, ()), None)
         return self.facts[station]
 
     def list_periods(self) -> list[Period]:
@@ -177,6 +179,8 @@ class DayBook:
         self.made = dict[tuple[str, str | None, date], Any]()
         # By site or station and Monday, weeks as they were drawn, each with what it was made of.
         self.weeks = dict[tuple[str, str | None, date], tuple[Any, Any]]()
+        # Days as heat maps have them, each with what it was made of.
+        self.heat = OrderedDict[DayKey, tuple[DayFacts, HeatRow]]()
         # The station of which all pages are written.
         self.history: StationHistory | None = None
 
@@ -278,14 +282,17 @@ class DayBook:
     def month(self, site: Site, station: str | None, month: date) -> dict[date, DayFacts]:
         """The days of a month that have periods."""
         days, found = list_days(month), dict[date, DayFacts]()
-        history = self.find_history(site, station)
+        calendar, history = find_calendar(site.zone), self.find_history(site, station)
         if history and history.month == month:
-            return {day: make_day(history.periods[day]) for day in days if day in history.periods}
+            known = history.periods
+            return {day: make_day(known[day], calendar) for day in days if day in known}
         unknown = [day for day in days if (site.name, station, day) not in self.kept]
         if len(unknown) > FEW_DAYS:
             found = self.read_month(site, station, unknown)
         else:
-            found = {day: make_day(self.read_periods(site, station, day)) for day in unknown}
+            found = {
+                day: make_day(self.read_periods(site, station, day), calendar) for day in unknown
+            }
         for day in days:
             if day not in found:
                 found[day] = self.kept[site.name, station, day]
@@ -303,7 +310,20 @@ class DayBook:
         else:
             periods = self.reader.day_periods(site, [station], begin, end).get(station, [])
         read = group_days(calendar, periods)
-        return {day: make_day(read[day]) if day in read else NO_DAY for day in days}
+        return {day: make_day(read.get(day, ()), calendar) for day in days}
+
+    def find_heat(self, site: Site, station: str | None, day: date, facts: DayFacts) -> HeatRow:
+        """Finds a day as heat maps have it."""
+        key = site.name, station, day
+        known = self.heat.get(key)
+        if known is not None and known[0] is facts:
+            return known[1]
+        row = HeatRow(day, facts.hours, find_calendar(site.zone))
+        if self.keeps and self.history is None:
+            self.heat[key] = facts, row
+            if len(self.heat) > MOST_HEAT:
+                self.heat.popitem(last=False)
+        return row
 
     def keep(self, key: DayKey, facts: DayFacts) -> None:
         """Keeps a day, and of too many those that were read last."""

@@ -142,7 +142,10 @@ def make_month(context: Context, site: Site, station: str | None, month: date) -
     calendar = context.calendar(site)
     first, last = min(days), max(days)
     shown = [first + timedelta(days=n) for n in range((last - first).days + 1)]
-    hours = [hour for facts in days.values() for hour in facts.hours]
+    rows = [
+        context.book.find_heat(site, station, day, days[day] if day in days else NO_DAY)
+        for day in shown
+    ]
     label = f"Days of {month:%B %Y} by hours, the stronger the more energy. The table has the days."
     peaks = [facts.peak for facts in days.values() if facts.peak]
     peak = max(peaks, key=lambda p: p.flow.net, default=None)
@@ -152,7 +155,7 @@ def make_month(context: Context, site: Site, station: str | None, month: date) -
     exports = has_export(days)
     return MonthPart(
         f"{month:%B %Y}",
-        draw_month(label, shown, hours, calendar),
+        draw_month(label, rows),
         make_day_columns("Day", exports, 3),
         make_day_rows(context, site, station, days, exports),
         join(said, ", "),

@@ -47,8 +47,8 @@ from ocpp_board.writers.pages.summaries import Summaries
 PATHS = FilePaths()
 # Sessions whose days are kept, where pages are written again, and days of one session that are written.
 KEPT_SESSIONS, MOST_SESSION_DAYS = 20_000, 62
-# Stations for each process that writes, at least.
-FEWEST = 2
+# Stations for each process that writes, at least, and chunks of them that it takes one after the other, at most.
+FEWEST, CHUNKS = 2, 32
 # The names of pages of a site's folder.
 OURS = re.compile(
     r"(index|stations|findings|lacking|refused|deeds|session-.*|\d{4}-\d\d(-\d\d)?)(\.\d+)?\.html"
@@ -120,7 +120,7 @@ class PageWriter:
         share_work(self, parts)
         self.write_index(sites)
         for site in sites:
-            remove_old(self.out / Path(PATHS.site(site.name)).parent, begun)
+            remove_old(f"{self.out}/{PATHS.scope(site.name, None)}", begun)
         return self.count
 
     def write_share(self, part: Share) -> None:
@@ -382,40 +382,63 @@ def list_months(days: Iterable[date]) -> list[date]:
     return sorted({day.replace(day=1) for day in days})
 
 
-def remove_old(folder: Path, begun: float) -> None:
+def remove_old(folder: str, begun: float) -> None:
     """Removes pages of a site that were not written since a moment."""
-    for path in folder.rglob("*.html"):
-        if OURS.fullmatch(path.name) and path.stat().st_mtime < begun - 1:
-            path.unlink()
+    with os.scandir(folder) as entries:
+        for entry in entries:
+            if entry.is_dir(follow_symlinks=False):
+                remove_old(entry.path, begun)
+            elif OURS.fullmatch(entry.name) and entry.stat().st_mtime < begun - 1:
+                os.unlink(entry.path)
 
 
 def share_work(writer: PageWriter, parts: Sequence[Share]) -> None:
-    """Writes parts, in a copy of this process for each of the workers where there are enough of them. Raises what the
-    writing raises."""
-    count = max(1, min(writer.options.workers, len(parts) // FEWEST))
-    if count == 1:
+    """Writes parts, in copies of this process where there are enough of them. Raises what the writing raises."""
+    copies = max(1, min(writer.options.workers, len(parts) // FEWEST))
+    if copies == 1:
         for part in parts:
             writer.write_share(part)
         return
-    copies = {fork_writer(writer, parts[place::count]): place for place in range(count)}
-    left = [place for copy, place in copies.items() if os.waitpid(copy, 0)[1]]
-    for place in left:
-        for part in parts[place::count]:
+    count = min(len(parts), CHUNKS * copies)
+    chunks = [parts[place::count] for place in range(count)]
+    asked, done = os.pipe(), os.pipe()
+    os.write(asked[1], b"".join(place.to_bytes(4, "big") for place in range(count)))
+    os.close(asked[1])
+    numbers = [fork_writer(writer, chunks, asked[0], done) for _ in range(copies)]
+    os.close(asked[0])
+    os.close(done[1])
+    with open(done[0], "rb") as file:
+        while record := file.read(8):
+            chunks[int.from_bytes(record[:4], "big")] = ()
+            writer.count += int.from_bytes(record[4:], "big")
+    for number in numbers:
+        os.waitpid(number, 0)
+    # What a copy that ended before its time had.
+    for chunk in chunks:
+        for part in chunk:
             writer.write_share(part)
 
 
-def fork_writer(writer: PageWriter, parts: Sequence[Share]) -> int:
-    """Writes parts in a copy of this process, with a connection of its own, and gives its number."""
+def fork_writer(
+    writer: PageWriter, chunks: Sequence[Sequence[Share]], asked: int, done: tuple[int, int]
+) -> int:
+    """Writes chunks of parts, whose places it reads from `asked`, in a copy of this process with a connection of its
+    own, and gives the number of the process. For each it writes its place and how many pages it has to `done`.
+    """
     number = os.fork()
     if number:
         return number
     gc.disable()
     status = 1
     try:
+        os.close(done[0])
         own = PageWriter(open_again(writer.store), writer.out, writer.options)
-        own.summaries.kept = writer.summaries.kept
-        for part in parts:
-            own.write_share(part)
+        own.written, own.summaries.kept = writer.written, writer.summaries.kept
+        while place := os.read(asked, 4):
+            own.count = 0
+            for part in chunks[int.from_bytes(place, "big")]:
+                own.write_share(part)
+            os.write(done[1], place + own.count.to_bytes(4, "big"))
         status = 0
     finally:
         # Nothing of what this process does at its end is the copy's.
