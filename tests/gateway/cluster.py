@@ -2,6 +2,7 @@
 
 import os
 import pwd
+import select
 import shutil
 import signal
 import socket
@@ -9,7 +10,7 @@ import subprocess
 import sys
 import tempfile
 import time
-from collections.abc import Iterator
+from collections.abc import Iterator, Sequence
 from contextlib import contextmanager
 from pathlib import Path
 from typing import Self
@@ -47,6 +48,7 @@ class Cluster:
         subprocess.run(
             list(map(str, command)),
             check=True,
+            timeout=2 * PATIENCE,
             stdout=subprocess.DEVNULL,
             user=self.user.pw_uid,
             group=self.user.pw_gid,
@@ -89,23 +91,31 @@ class Cluster:
         """Waits until it answers."""
         due = time.monotonic() + PATIENCE
         ask = [str(BIN / "pg_isready"), "-q", "-h", "127.0.0.1", "-p", str(self.port)]
-        while subprocess.run(ask, check=False).returncode:
-            if time.monotonic() > due:
-                raise TimeoutError((self.folder / "log").read_text()[-2000:])
+        while subprocess.run(ask, check=False, timeout=PATIENCE).returncode:
+            if time.monotonic() > due or not self.is_running:
+                log = (self.folder / "log").read_text()[-2000:]
+                raise TimeoutError(f"PostgreSQL does not answer; its log ends with:\n{log}")
             time.sleep(0.05)
+
+    @property
+    def is_running(self) -> bool:
+        """Whether its first process runs."""
+        return self.process is not None and self.process.poll() is None
 
     def kill(self) -> None:
         """Kills all of its processes, as a power cut does."""
         assert self.process
-        pids = [self.process.pid, *list_children(self.process.pid)]
-        for pid in pids:
-            try:
-                os.kill(pid, signal.SIGKILL)
-            except ProcessLookupError:
-                pass
-        self.process.wait()
-        due = time.monotonic() + 10
-        while any(Path(f"/proc/{pid}").exists() for pid in pids) and time.monotonic() < due:
+        # Stopped, it begins none that would be left over.
+        pids = [self.process.pid]
+        for number in (signal.SIGSTOP, signal.SIGKILL):
+            kill_all(pids, number)
+            if number == signal.SIGSTOP:
+                pids += list_children(self.process.pid)
+        self.process.wait(PATIENCE)
+        due = time.monotonic() + PATIENCE
+        while any(Path(f"/proc/{pid}").exists() for pid in pids):
+            if time.monotonic() > due:
+                raise TimeoutError(f"processes {pids} of PostgreSQL did not end")
             time.sleep(0.01)
         (self.data / "postmaster.pid").unlink(missing_ok=True)
 
@@ -134,12 +144,22 @@ class Cluster:
             check=True,
             capture_output=True,
             text=True,
+            timeout=PATIENCE,
         ).stdout.strip()
 
     def create(self, database: str) -> str:
         """Makes a database, and gives its name as a store."""
         self.query("postgres", f"create database {database}")
         return self.name(database)
+
+
+def kill_all(pids: Sequence[int], number: int = signal.SIGKILL) -> None:
+    """Sends a signal to processes, of which some may be gone."""
+    for pid in pids:
+        try:
+            os.kill(pid, number)
+        except ProcessLookupError:
+            pass
 
 
 def list_children(pid: int) -> list[int]:
@@ -181,8 +201,23 @@ class Part:
             stderr=self.log,
             env=os.environ | {"PYTHONPATH": f"{TOP / 'python'}:{TOP}"} | environment,
         )
+        self.first = self.read_first()
+
+    def read_first(self) -> str:
+        """The first line that it prints. Raises TimeoutError."""
         assert self.process.stdout
-        self.first = self.process.stdout.readline().decode().strip()
+        output, line = self.process.stdout.fileno(), b""
+        due = time.monotonic() + PATIENCE
+        while not line.endswith(b"\n"):
+            is_there, _, _ = select.select([output], [], [], max(0.0, due - time.monotonic()))
+            if not is_there:
+                self.kill()
+                raise TimeoutError(f"{self.words} printed nothing; it logged:\n{self.read_log()}")
+            data = os.read(output, 4096)
+            if not data:
+                break
+            line += data
+        return line.decode().strip()
 
     @property
     def pid(self) -> int:
@@ -200,12 +235,8 @@ class Part:
 
     def kill(self) -> None:
         """Kills it with its processes."""
-        for pid in (self.pid, *list_children(self.pid)):
-            try:
-                os.kill(pid, signal.SIGKILL)
-            except ProcessLookupError:
-                pass
-        self.process.wait()
+        kill_all([self.pid, *list_children(self.pid)])
+        self.process.wait(PATIENCE)
 
     def stop(self) -> int:
         """Ends it, and gives its status."""

@@ -310,7 +310,6 @@ def test_a_value_that_does_not_count_needs_no_number() -> None:
     start, *_ = sound("T1", FIRST)
     at = {"timestamp": "2026-03-01T08:00:00Z", "sampledValue": [{"measurand": "Voltage"}]}
     message = start._replace(payload=start.payload | {"meterValue": [at]})
-    assert read_conflict(deliver(message)).readings == ()
     assert follow([message]).events[0].readings == ()
 
 

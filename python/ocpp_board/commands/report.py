@@ -196,6 +196,7 @@ class Report:
             self.lines += batch.lines
             self.untaken += batch.untaken
             self.loader.plan(batch.site_of, batch.rules)
+            self.loader.note_left_out(batch.left_out)
             if batch.records:
                 self.loader.submit(batch.records)
         self.loader.finish()
@@ -317,8 +318,7 @@ def write_pages(options: Options, store: Database) -> int:
         last=options.tables.last,
         workers=options.processes,
     )
-    pages.write_pages(store, options.out, asked)
-    return sum(1 for _ in options.out.rglob("*.html"))
+    return pages.write_pages(store, options.out, asked)
 
 
 def find_until(store: Database) -> datetime | None:

@@ -8,12 +8,12 @@ from functools import lru_cache
 
 from ocpp_board.ledger.answers import Listed, Lists, Placed, read_listed, read_placed
 from ocpp_board.messages.meter_values import JSON
+from ocpp_board.messages.times import seconds_of
 from ocpp_board.messages.transactions import (
     NOTHING_BESIDE,
     Beside,
     Event,
     Reading,
-    event_of,
     is_far,
     read_beside,
 )
@@ -95,8 +95,10 @@ def find_beside(text: str) -> Beside:
 
 @lru_cache(KEPT_CONFLICTS)
 def read_conflict(text: str) -> Event:
-    """The event of a line `deliver` that conflicted with another one."""
-    return event_of(JSON.decode(cut_message(text))[3], None)
+    """The event of a line `deliver` that conflicted with another one: its number, kind and time."""
+    payload = JSON.decode(cut_message(text))[3]
+    at = seconds_of(payload["timestamp"])
+    return Event(int(payload["seqNo"]), payload["eventType"], at, (), (), False, "")
 
 
 class LiveEvents(list[Event]):

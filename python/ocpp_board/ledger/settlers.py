@@ -1,4 +1,4 @@
-"""Processes that settle at once in one store, each what is of its own stations."""
+"""Processes that settle at once in one store, each for its own stations."""
 
 import multiprocessing
 from collections import Counter

@@ -3,7 +3,6 @@
 Which events count, and what their readings come to, the program lists (`ledger.answers`).
 """
 
-from collections.abc import Iterator
 from datetime import datetime, timezone
 from typing import Any, NamedTuple
 
@@ -11,7 +10,6 @@ from ocpp_board.messages.bills import NOTHING, Details, details_of
 from ocpp_board.messages.meter_values import EXPORT, IMPORT, measurand_of
 from ocpp_board.messages.meter_values import mwh_of as mwh_of
 from ocpp_board.messages.signed_values import unlike_plain
-from ocpp_board.messages.times import seconds_of as seconds_of
 
 # What a measurand of active energy begins with, whether its readings count or not.
 ENERGY = "Energy.Active."
@@ -77,34 +75,6 @@ def plain(value: Any) -> str:
     return text if len(value) <= LONGEST_TEXT else text + ".."
 
 
-def event_of(payload: dict[str, Any], received: datetime | None) -> Event:
-    """The event of a payload that passed the program's checks."""
-    beside = read_beside(payload)
-    at = seconds_of(payload["timestamp"])
-    return Event(
-        int(payload["seqNo"]),
-        payload["eventType"],
-        at,
-        tuple(list_readings(payload)),
-        beside.others,
-        is_far(at, received.timestamp() if received else None, beside.is_offline),
-        beside.reason,
-        evse_of(payload) if "evse" in payload else 0,
-        beside.unlike,
-        beside.details,
-    )
-
-
-def list_readings(payload: dict[str, Any]) -> Iterator[Reading]:
-    """The readings of a payload that count."""
-    for value in payload.get("meterValue") or ():
-        at = seconds_of(value["timestamp"])
-        for sampled in value["sampledValue"]:
-            if (measurand := measurand_of(sampled)) in REGISTERS:
-                mwh = mwh_of(sampled["value"], sampled.get("unitOfMeasure") or NO_UNIT)
-                yield Reading(at, mwh, measurand == EXPORT)
-
-
 def read_beside(payload: dict[str, Any]) -> Beside:
     """What a payload that passed the program's checks has beside what counts."""
     others, unlike = set[str](), list[str]()
@@ -127,12 +97,6 @@ def read_beside(payload: dict[str, Any]) -> Beside:
         tuple(unlike),
         details_of(payload) if has_details else NOTHING,
     )
-
-
-def evse_of(payload: dict[str, Any]) -> int:
-    """The EVSE that an event names; 0 if it names none."""
-    evse = payload.get("evse")
-    return int((evse or {}).get("id") or 0)
 
 
 def is_far(at: float | None, receipt: float | None, is_offline: bool) -> bool:

@@ -40,6 +40,20 @@ SOURCES = (
 PARTITIONS = 16
 # Seconds that a writer waits for another one.
 PATIENCE = 60
+# When a network that is cut counts as such, for this side, where the store's name says nothing of it, and for the
+# server, which holds locks for a connection as long as it knows no better.
+NETWORK = {
+    "connect_timeout": 10,
+    "keepalives_idle": 5,
+    "keepalives_interval": 3,
+    "keepalives_count": 3,
+    "tcp_user_timeout": 10_000,
+}
+# To compile a plan over all partitions takes far longer than to run it.
+SETTINGS = """
+set time zone 'UTC'; set jit = off; set tcp_keepalives_idle = 10; set tcp_keepalives_interval = 5;
+set tcp_keepalives_count = 3; set tcp_user_timeout = 30000
+"""
 MARK = re.compile(r"/\*(sqlite|postgresql) (.*?)\*/", re.DOTALL)
 # A text in quotes, in which nothing is a comment, or a comment.
 COMMENT = re.compile(r"('(?:[^'])*')|--[^\n]*")
@@ -186,7 +200,6 @@ class SqliteDatabase(Database):
             self.connection.execute("pragma temp_store = memory")
         except sqlite3.Error as fault:
             raise StoreError(f"{path} can't be opened as a store: {fault}") from None
-        self.connection.row_factory = make_row
         self.path = path
 
     @report_faults
@@ -207,16 +220,16 @@ class SqliteDatabase(Database):
     @report_faults
     def fetch(self, statement: str, **values: Any) -> list[Row]:
         """The rows of a statement."""
-        return self.connection.execute(statement, values).fetchall()
+        return list(read_rows(self.connection.execute(statement, values)))
 
     def fetch_each(self, statement: str, values: Iterable[Values]) -> Iterator[list[Row]]:
         """The rows of a statement for each of these values."""
         for one in values:
-            yield self.connection.execute(statement, one).fetchall()
+            yield list(read_rows(self.connection.execute(statement, one)))
 
     def stream(self, statement: str, **values: Any) -> Iterator[Row]:
         """The rows of a statement one by one."""
-        yield from self.connection.execute(statement, values)
+        yield from read_rows(self.connection.execute(statement, values))
 
     @contextmanager
     def transaction(self) -> Iterator[None]:
@@ -254,10 +267,8 @@ adapt_values()
 
 
 @lru_cache(1_024)
-def find_readers(
-    columns: tuple[str, ...]
-) -> tuple[Any, tuple[tuple[int, Callable[[Any], Any]], ...]]:
-    """The class of a statement's rows, and what reads the values of which columns."""
+def find_maker(columns: tuple[str, ...]) -> Callable[[tuple[Any, ...]], Row]:
+    """What makes a statement's rows of SQLite's values: moments, days and flags as Python has them."""
     readers: list[tuple[int, Callable[[Any], Any]]] = []
     for place, name in enumerate(columns):
         if is_moment(name):
@@ -266,19 +277,27 @@ def find_readers(
             readers.append((place, date.fromisoformat))
         elif name in FLAGS:
             readers.append((place, bool))
-    return namedtuple("Row", columns, rename=True), tuple(readers)
-
-
-def make_row(cursor: sqlite3.Cursor, values: tuple[Any, ...]) -> Row:
-    """A row of SQLite, its moments, days and flags as Python has them."""
-    row, readers = find_readers(tuple(one[0] for one in cursor.description))
+    name_columns: Any = namedtuple
+    make: Callable[[Iterable[Any]], Row] = name_columns("Row", columns, rename=True)._make
     if not readers:
-        return row._make(values)
-    found = list(values)
-    for place, read in readers:
-        if found[place] is not None:
-            found[place] = read(found[place])
-    return row._make(found)
+        return make
+
+    def read(values: tuple[Any, ...]) -> Row:
+        found = list(values)
+        for place, read_value in readers:
+            value = found[place]
+            if value is not None:
+                found[place] = read_value(value)
+        return make(found)
+
+    return read
+
+
+def read_rows(cursor: sqlite3.Cursor) -> Iterable[Row]:
+    """The rows of a statement that was run."""
+    if cursor.description is None:
+        return ()
+    return map(find_maker(tuple([one[0] for one in cursor.description])), cursor)
 
 
 class PostgresDatabase(Database):
@@ -293,12 +312,13 @@ class PostgresDatabase(Database):
                 "a store in PostgreSQL needs psycopg 3 (Debian: apt-get install python3-psycopg)"
             )
         try:
+            more: dict[str, Any] = {
+                name: value for name, value in NETWORK.items() if f"{name}=" not in url
+            }
             self.connection = psycopg.connect(
-                url, autocommit=True, row_factory=namedtuple_row, prepare_threshold=2
+                url, autocommit=True, row_factory=namedtuple_row, prepare_threshold=2, **more
             )
-            self.connection.execute("set time zone 'UTC'")
-            # To compile a plan over all partitions takes far longer than to run it.
-            self.connection.execute("set jit = off")
+            self.connection.execute(SETTINGS)
         except psycopg.Error as fault:
             raise StoreAway(f"the store can't be reached: {' '.join(str(fault).split())}") from None
         self.url = url
