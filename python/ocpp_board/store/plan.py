@@ -15,7 +15,7 @@ from ocpp_board.records import Limits, Rules
 from ocpp_board.store.database import Database, Row
 
 RULES_COLUMNS = "period, reading_order, settle, zone, events, readings, most_kw"
-# The advisory locks of PostgreSQL by sites: writers of lines share one, who changes a site's plan has it alone.
+# The advisory locks of PostgreSQL by sites: writers of lines share one, who changes a site's plan has it for itself.
 SITE_LOCK = 7_201_402
 
 
