@@ -14,6 +14,7 @@ from functools import partial
 from operator import attrgetter
 from typing import Any, NamedTuple, Protocol
 
+from ocpp_board.errors import InputError
 from ocpp_board.ledger.answers import Wish
 from ocpp_board.ledger.program import find_program
 from ocpp_board.ledger.quotas import (
@@ -41,16 +42,26 @@ from ocpp_board.ledger.refusals import (
 )
 from ocpp_board.ledger.rows import DELIVER, Done, Work, list_accepted, work_out
 from ocpp_board.limits import FIRST_MOMENT
-from ocpp_board.messages.texts import one_line
+from ocpp_board.messages.texts import is_unanswered, one_line
 from ocpp_board.messages.times import SECOND
 from ocpp_board.records import Answer, Asked, Deed, Line, Message, Rules, Untaken
 from ocpp_board.store import lines as store_lines
 from ocpp_board.store.database import Database, Row, choose
 from ocpp_board.store.lines import Held, Kept, Key, Warm, Writer
-from ocpp_board.store.plan import RULES_COLUMNS, Author, lock_sites, read_rules, write_site
+from ocpp_board.store.plan import (
+    RULES_COLUMNS,
+    Author,
+    lock_sites,
+    own_rules,
+    read_rules,
+    write_power,
+    write_site,
+)
 
 # An origin that is a place in a file, such as `csms.log:17`.
 PLACE = re.compile(r"(?!.*://).*:[0-9]+")
+# The word of an operator who chooses the order of a transaction's readings.
+ORDER = "order"
 # What became of texts that were refused and taken after all.
 TAKEN, MENDED = "taken", "mended"
 # Texts that a process of a pool is asked at once, and the size of the works that it gets at once.
@@ -199,6 +210,9 @@ def sort_message(batch: Batch, place: int, one: Message, wish: Wish) -> None:
     if wish.outcome == "silent":
         batch.answers[place] = Answer("silent")
         return
+    if is_unanswered(one.text):
+        batch.answers[place] = Answer("silent")
+        return
     cause = wish.text if wish.outcome == "fault" else name_cause(wish.text)
     if not cause:
         batch.answers[place] = Answer("reply", "", wish.text)
@@ -267,11 +281,19 @@ def make_works(
 ) -> dict[Key, Work]:
     """The works of transactions that are held."""
     rules = find_all_rules(store, {one.site for one in held.values()})
+    powers = find_powers(store, held)
     works = dict[Key, Work]()
     for key, one in held.items():
         new = list_new(batch, batch.sessions[key], deeds)
-        works[key] = Work(*key, one.site, rules[one.site], one.lines, new, list_conflicts(key, one))
+        own = own_rules(rules[one.site], one.own_order, powers.get(key[0]))
+        works[key] = Work(*key, one.site, own, one.lines, new, list_conflicts(key, one))
     return works
+
+
+def find_powers(store: Database, keys: Iterable[Key]) -> dict[str, int]:
+    """The powers of those of the stations of transactions that have one of their own."""
+    rows = store_lines.find_stations(store, sorted({key[0] for key in keys}))
+    return {station: row.most_kw for station, row in rows.items() if row.most_kw}
 
 
 def foresee(store: Database, batch: Batch) -> Foreseen:
@@ -642,6 +664,21 @@ def change_site(
         return compute_again(store, site, rules)
 
 
+def change_power(
+    store: Database, station: str, most_kw: int, author: Author, where: str = "plan"
+) -> None:
+    """Says the greatest power of a station's EVSEs in kW, and computes the rows of its transactions again. Raises
+    InputError."""
+    with store.transaction():
+        if write_power(store, station, most_kw, author, where):
+            rows = store.fetch(
+                "select transaction_id, site from session where station = :station", station=station
+            )
+            sites = {(station, row.transaction_id): row.site for row in rows}
+            for start in range(0, len(rows), SESSIONS_AT_ONCE):
+                renew_sessions(store, dict([*sites.items()][start : start + SESSIONS_AT_ONCE]))
+
+
 def compute_again(store: Database, site: str, rules: Rules) -> int:
     """Computes the rows of a site's transactions by these rules, within a database transaction that holds its plan."""
     count, after = 0, ("", "")
@@ -664,14 +701,42 @@ def renew_sessions(
     """Computes the rows of transactions again, within a database transaction. `sites`: those of the transactions."""
     rules = rules or find_all_rules(store, set(sites.values()))
     held = store_lines.hold_sessions(store, sites)
-    works = {
-        key: Work(*key, one.site, rules[one.site], one.lines, [], list_conflicts(key, one), True)
-        for key, one in held.items()
-    }
+    powers = find_powers(store, held)
+    works = {}
+    for key, one in held.items():
+        own = own_rules(rules[one.site], one.own_order, powers.get(key[0]))
+        works[key] = Work(*key, one.site, own, one.lines, [], list_conflicts(key, one), True)
     writer = Writer(store)
     for key, work, done in work_on(works, None):
         write_rows(writer, work, held[key], done)
     writer.write()
+
+
+def order_session(
+    store: Database, station: str, transaction: str, order: str, author: Author
+) -> None:
+    """Has a transaction's readings taken in an order of its own, and computes its rows again. Raises InputError where
+    there is no such transaction."""
+    key = station, transaction.lower()
+    with store.transaction():
+        row = store.fetch_one(
+            "select site from session where station = :station and transaction_id = :transaction",
+            station=station,
+            transaction=key[1],
+        )
+        if row is None:
+            raise InputError(f"the store has no transaction {transaction!r} of station {station!r}")
+        lock_sites(store, [row.site], False)
+        store.execute(
+            "update session set own_order = :order where station = :station and transaction_id = :transaction",
+            order=order,
+            station=station,
+            transaction=key[1],
+        )
+        renew_sessions(store, {key: row.site})
+        now = datetime.now(timezone.utc)
+        deed = Deed(ORDER, *key, 0, author.who, author.why, now, f"operator {author.who}")
+        write_deed(store, deed, Answer(f"by {order}", "", None, key[1]))
 
 
 def take_strays(

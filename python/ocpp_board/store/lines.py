@@ -8,8 +8,8 @@ from datetime import datetime, timezone
 from typing import Any, NamedTuple
 
 from ocpp_board.errors import StoreError
-from ocpp_board.records import Line
-from ocpp_board.store.database import Database, Row, SqliteDatabase
+from ocpp_board.records import LeftOut, Line
+from ocpp_board.store.database import Database, Row, SqliteDatabase, choose
 
 SESSION = """lines evse events voided first_number last_number complete missing gaps up down export_up export_down state
 began ended first_at last_at first_register last_register first_export_register last_export_register stopped_reason
@@ -78,6 +78,14 @@ insert into mended (station, digest, transaction_id, number, at, mends, came, or
 values (:station, :digest, :transaction, :number, :at, :mends, :came, :origin)
 on conflict (station, digest) do nothing
 """
+ADD_LEFT_OUT = """
+insert into left_out (station, version, site, first_at, last_at) values (:station, :version, :site, :first_at, :last_at)
+on conflict (station, version) do update set
+    first_at = /*sqlite min*/ /*postgresql least*/ (coalesce(left_out.first_at, excluded.first_at),
+        coalesce(excluded.first_at, left_out.first_at)),
+    last_at = /*sqlite max*/ /*postgresql greatest*/ (coalesce(left_out.last_at, excluded.last_at),
+        coalesce(excluded.last_at, left_out.last_at))
+"""
 ADD_DEED = """
 insert into deed (station, transaction_id, number, word, at, origin, who, why, outcome, name, count)
 values (:station, :transaction, :number, :word, :at, :origin, :who, :why, :outcome, :name, :count)
@@ -95,6 +103,8 @@ class Held(NamedTuple):
     refusals: list[Row]
     # What else is stored of it, where that is known.
     kept: "Kept | None" = None
+    # The order of its readings, where that is not the site's.
+    own_order: str = ""
 
 
 def name_keys(keys: Iterable[Key]) -> list[dict[str, str]]:
@@ -102,20 +112,22 @@ def name_keys(keys: Iterable[Key]) -> list[dict[str, str]]:
     return [{"station": station, "transaction": transaction} for station, transaction in keys]
 
 
-def find_sites(store: Database, stations: Sequence[str]) -> dict[str, str]:
-    """The sites of those of these stations that are planned."""
-    asked = "select station, site from station where station = :station"
+def find_stations(store: Database, stations: Sequence[str]) -> dict[str, Row]:
+    """Those of these stations that are planned: the site and the power of each."""
+    asked = "select station, site, most_kw from station where station"
     if not stations:
         return {}
     if store.kind == "postgresql":
-        rows = store.fetch(
-            "select station, site from station where station = any(:stations)",
-            stations=list(stations),
-        )
+        rows = store.fetch(f"{asked} = any(:stations)", stations=list(stations))
     else:
-        some = store.fetch_each(asked, [{"station": station} for station in stations])
+        some = store.fetch_each(f"{asked} = :station", [{"station": one} for one in stations])
         rows = [row for one in some for row in one]
-    return {row.station: row.site for row in rows}
+    return {row.station: row for row in rows}
+
+
+def find_sites(store: Database, stations: Sequence[str]) -> dict[str, str]:
+    """The sites of those of these stations that are planned."""
+    return {station: row.site for station, row in find_stations(store, stations).items()}
 
 
 def fetch_keyed(
@@ -171,7 +183,7 @@ def hold_sessions(
             keys=json.dumps([{"s": key[0], "t": key[1], "site": sites[key]} for key in keys]),
         )
     lock = "for update" if store.kind == "postgresql" else ""
-    had = fetch_keyed(store, "site, lines, changed_at", "session", keys, lock)
+    had = fetch_keyed(store, "site, lines, changed_at, own_order", "session", keys, lock)
     kept = {
         key: one
         for key, rows in zip(keys, had)
@@ -182,13 +194,13 @@ def hold_sessions(
     refusals = dict(zip(keys, read_refusals(store, keys)))
     found = dict[Key, Held]()
     for key, rows in zip(keys, had):
-        site = rows[0].site if rows else sites[key]
+        site, order = (rows[0].site, rows[0].own_order) if rows else (sites[key], "")
         if key in kept:
-            found[key] = Held(site, kept[key].lines, refusals[key], kept[key])
+            found[key] = Held(site, kept[key].lines, refusals[key], kept[key], order)
             continue
         own = lines.get(key, [])
         # A transaction without lines has no other rows.
-        found[key] = Held(site, own, refusals[key], None if own else Kept())
+        found[key] = Held(site, own, refusals[key], None if own else Kept(), order)
         if rows and len(own) != rows[0].lines:
             raise StoreError(
                 f"transaction {key[1]} of {key[0]} has not the lines that its row counts"
@@ -426,6 +438,12 @@ def find_digests(store: Database, station: str, cause: str) -> set[str]:
     """The digests of the texts of a station and a cause that are kept."""
     asked = "select digest from refusal where station = :station and cause = :cause"
     return {row.digest for row in store.fetch(asked, station=station, cause=cause)}
+
+
+def note_left_out(store: Database, found: Iterable[LeftOut]) -> None:
+    """Adds stations whose messages are left out for their version, within a database transaction."""
+    if rows := [one._asdict() for one in found]:
+        store.execute_each(choose(ADD_LEFT_OUT, store.kind), rows)
 
 
 def find_deeds(store: Database, keys: Sequence[dict[str, Any]]) -> list[Row | None]:
