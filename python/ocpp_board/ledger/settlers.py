@@ -77,11 +77,7 @@ class Settlers:
         for one in asked:
             parts[self.find_place(one.station)].append((PLACES[type(one)], tuple(one)))
         return Pending(
-            [
-                pool.apply_async(settle_own, (part,))
-                for pool, part in zip(self.pools, parts)
-                if part
-            ]
+            [pool.apply_async(settle_own, (part,)) for pool, part in zip(self.pools, parts) if part]
         )
 
     def close(self) -> None:
