@@ -4,8 +4,9 @@ from dataclasses import dataclass
 from datetime import datetime
 from typing import NamedTuple
 
-# The deeds of operators.
+# The deeds of operators, and how the line of a message begins.
 DEEDS = ("void", "restore", "erase")
+DELIVER = "deliver "
 
 
 class Message(NamedTuple):
@@ -56,6 +57,23 @@ class Untaken(NamedTuple):
 Asked = Message | Deed | Untaken
 
 
+class LeftOut(NamedTuple):
+    """A station whose messages are left out since they are of another version of OCPP: from when to when, where that is
+    known, and the site that the source names, which may be empty."""
+
+    station: str
+    version: str
+    site: str
+    first_at: datetime | None
+    last_at: datetime | None
+
+    def join(self, other: "LeftOut") -> "LeftOut":
+        """Both together."""
+        moments = [self.first_at, self.last_at, other.first_at, other.last_at]
+        some = [at for at in moments if at is not None]
+        return self._replace(first_at=min(some, default=None), last_at=max(some, default=None))
+
+
 @dataclass(slots=True)
 class Answer:
     """What became of what was asked.
@@ -84,7 +102,8 @@ class Limits:
 @dataclass(frozen=True, slots=True)
 class Rules:
     """A site's rules: the length of its periods in seconds, the order of readings, the rule of settling, what a
-    transaction may keep, the zone of its days, and the greatest power of an EVSE that can be, in kW.
+    transaction may keep, the zone of its days, the greatest power of an EVSE that can be, in kW, the seconds from a
+    start or an end within which it has its reading, and the Wh below which a register that falls has not fallen.
     """
 
     period: int = 900
@@ -93,6 +112,8 @@ class Rules:
     limits: Limits = Limits()
     zone: str = "UTC"
     most_kw: int = 400
+    reading_within: int = 300
+    resolution: int = 10
 
 
 class Line(NamedTuple):

@@ -56,7 +56,7 @@ class Case:
     Messages come to the store, then those of `raw`; or `log` is written to {dir}/log as JSON lines, and the commands of
     `setup` take it. `files`: others of that folder, each of a short line or a text. `unplanned`: stations that the plan
     does not have. `shows`: what commands print in the end, as expressions that have to be found. `is_alarm`: a right
-    number is called wrong, since nothing could know better.
+    number is called wrong, since nothing could know better; `is_advised`: what is advised names the remedy.
     """
 
     name: str
@@ -81,6 +81,7 @@ class Case:
     status: tuple[int, ...] = ()
     shows: tuple[tuple[str, str], ...] = ()
     is_alarm: bool = False
+    is_advised: bool = True
 
 
 def read_time(text: str) -> datetime:

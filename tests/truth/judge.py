@@ -138,14 +138,15 @@ def look(store: Database, case: Case) -> Seen:
 def run(store_name: str, line: str) -> tuple[int, str]:
     """Runs a command of `ocpp-board`, and gives its status and what it printed."""
     words = shlex.split(line)
-    said = io.StringIO()
+    said = io.TextIOWrapper(io.BytesIO(), "utf-8", write_through=True)
     words[1:1] = ["--store", store_name]
     with contextlib.redirect_stdout(said), contextlib.redirect_stderr(said):
         try:
             status = main(words)
         except SystemExit as ended:
             status = int(ended.code or 0)
-    return int(status), said.getvalue()
+    said.seek(0)
+    return int(status), said.read()
 
 
 def compare_sessions(case: Case, seen: Seen) -> list[tuple[Verdict, str]]:
@@ -251,7 +252,7 @@ def compare_after(case: Case, before: Seen, after: Seen) -> list[tuple[Verdict, 
             kind = Verdict.NO_WAY if before.waiting else Verdict.ADVICE
             found.append((kind, f"after the remedy {name} has {had} Wh and not {wh}"))
     words = {name_command(line) for line in case.remedy}
-    if not any(word in before.advice for word in words):
+    if case.is_advised and not any(word in before.advice for word in words):
         found.append((Verdict.ADVICE, f"nothing advises {' or '.join(sorted(words))}"))
     return found
 

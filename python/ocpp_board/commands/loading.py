@@ -1,16 +1,17 @@
 """Takes records of a source into a store: the plan first, then messages and operators' lines in batches."""
 
 from collections import Counter, deque
-from collections.abc import Collection, Mapping
+from collections.abc import Collection, Iterable, Mapping
 from dataclasses import dataclass, field, replace
 
 from ocpp_board.commands.options import find_by_site
 from ocpp_board.ledger.engine import Pool, change_site, settle, take_strays
 from ocpp_board.ledger.settlers import Pending, Settlers
-from ocpp_board.records import Answer, Asked, Limits, Rules
+from ocpp_board.records import Answer, Asked, LeftOut, Limits, Rules
 from ocpp_board.sources.script import Declaration
 from ocpp_board.sources.stations import PlanOptions
 from ocpp_board.store.database import Database
+from ocpp_board.store.lines import note_left_out
 from ocpp_board.store.plan import Author, find_rules, write_station
 
 # Records that are settled at once, and how many such batches are under way at once where processes share them.
@@ -115,6 +116,13 @@ class Loader:
         rules = self.wanted.find_rules(site, declared or before)
         change_site(self.store, site, rules, self.author)
         self.sites.add(site)
+
+    def note_left_out(self, found: Iterable[LeftOut]) -> None:
+        """Notes stations whose messages are left out for their version."""
+        some = list(found)
+        if some:
+            with self.store.transaction():
+                note_left_out(self.store, some)
 
     def take_strays(self, stations: Collection[str]) -> None:
         """Takes what came of stations before the plan had them."""

@@ -409,8 +409,9 @@ def add_script(parser: argparse.ArgumentParser) -> None:
     parser.add_argument(
         "--received",
         dest="is_received",
-        action="store_true",
-        help="a comment `# received <time>` before each message, if the log has its time",
+        action=argparse.BooleanOptionalAction,
+        default=True,
+        help="a comment `# received <time>` before each message, if the log has its time (without it, none)",
     )
     parser.add_argument(
         "--split",

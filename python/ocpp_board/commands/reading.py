@@ -20,7 +20,7 @@ from ocpp_board.errors import UsageError
 from ocpp_board.escapes import shown
 from ocpp_board.limits import LONGEST_LINE
 from ocpp_board.messages.texts import Refused
-from ocpp_board.records import Asked, Rules, Untaken
+from ocpp_board.records import Asked, LeftOut, Rules, Untaken
 from ocpp_board.sources.files import open_input, read_lines, unpack
 from ocpp_board.sources.forms import Shape
 from ocpp_board.sources.lines import FORMS as WORDS
@@ -58,6 +58,8 @@ class Batch:
     rules: dict[str, Rules] = field(default_factory=dict)
     lines: int = 0
     untaken: int = 0
+    # Stations that were left out for their version.
+    left_out: list[LeftOut] = field(default_factory=list)
 
 
 class Meter:
@@ -183,6 +185,7 @@ class BatchReader:
             mistakes.report(number, why)
             self.batch.untaken += 1
         self.batch.lines += reader.counts["lines"]
+        self.batch.left_out += reader.take_left_out()
         yield self.end_batch()
         self.meter.end()
         mistakes.end()

@@ -196,6 +196,7 @@ class Report:
             self.lines += batch.lines
             self.untaken += batch.untaken
             self.loader.plan(batch.site_of, batch.rules)
+            self.loader.note_left_out(batch.left_out)
             if batch.records:
                 self.loader.submit(batch.records)
         self.loader.finish()

@@ -73,6 +73,8 @@ class Options:
     pilot: bool = False
     proxy: list[str] = field(default_factory=list)
     metrics: tuple[str, int] | None = None
+    # Hours after which a session that lacks messages is silent.
+    silent: int = 24
 
 
 class Gateway:
@@ -101,7 +103,7 @@ class Gateway:
         self.counts = Counter[str]()
         self.repeated = Repeated()
         # Messages of stations that no site has, and seconds since the last closing of sites.
-        self.strays, self.closing_ages = 0, dict[str, float]()
+        self.figures = stations.StoreFigures()
         self.jobs: set[asyncio.Task[Any]] = set()
         self.is_ending = asyncio.Event()
         # When the event loop ran last.
@@ -228,7 +230,7 @@ class Gateway:
         """Reads what the store says of itself, for who watches."""
         while self.options.metrics:
             try:
-                self.strays, self.closing_ages = await self.clerk.run(stations.read_figures)
+                self.figures = await self.clerk.run(stations.read_figures, self.options.silent)
             except StoreError as fault:
                 log.debug("%s", fault)
             await asyncio.sleep(FIGURES)

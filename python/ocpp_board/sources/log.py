@@ -5,12 +5,18 @@ from datetime import datetime, timezone
 from typing import NamedTuple
 
 from ocpp_board.escapes import shown
-from ocpp_board.limits import FIRST_MOMENT, LONGEST_LINE, LONGEST_LOG_LINE, PAST_MOMENTS
+from ocpp_board.limits import (
+    FIRST_MOMENT,
+    LONGEST_LINE,
+    LONGEST_LOG_LINE,
+    PAST_MOMENTS,
+    is_name,
+)
 from ocpp_board.messages.message_faults import OLD_ACTIONS
 from ocpp_board.messages.named import find_named
-from ocpp_board.messages.texts import CALL, Refused, has_moment, is_answer
+from ocpp_board.messages.texts import CALL, Refused, has_moment, is_answer, is_unanswered
 from ocpp_board.messages.times import seconds_of
-from ocpp_board.records import Message, Untaken
+from ocpp_board.records import LeftOut, Message, Untaken
 from ocpp_board.sources.forms import Entry, Shape
 from ocpp_board.sources.mend import Mended, Mender
 from ocpp_board.sources.stations import NOT_IN, StationPlan
@@ -25,6 +31,8 @@ PLAIN = re.compile(
 SECONDS = len("2026-03-01T10:00:00")
 # Bytes that a character has at most, and what is before a message in the line of a script.
 MOST_BYTES, FRONT = 4, len("deliver  ") + 48
+# The version of messages of actions that only OCPP 1.6 has, and characters of a version that are kept.
+OLD_VERSION, LONGEST_VERSION = "ocpp1.6", 40
 # Characters of a line that can't be taken which are kept.
 LONGEST_TEXT = 4_096
 # What is to be done about a line that is not taken, by how the mistake begins.
@@ -129,6 +137,8 @@ class LogReader:
         self.counts, self.mender = dict.fromkeys(self.KINDS, 0), Mender(plan.asked.mend)
         # What the line says that is read, as far as it was understood.
         self.entry: Entry | None = None
+        # Stations whose messages are left out for their version.
+        self.left_out: dict[tuple[str, str], LeftOut] = {}
 
     def read(self, line: bytes | None, number: int = 0) -> Read:
         """What a line becomes; None is one that is too long. Raises Refused."""
@@ -158,10 +168,11 @@ class LogReader:
     def read_entry(self, entry: Entry, number: int) -> Read:
         """What a line becomes that says this: a message where a station sent a call. Raises Refused."""
         call = CALL.match(entry.message)
-        if entry.is_old or call and call[2] in OLD_ACTIONS:
+        if entry.version or call and call[2] in OLD_ACTIONS:
+            self.note_left_out(entry)
             return OLD
         site, station = self.plan.place(entry)
-        is_answered = call is None and is_answer(entry.message)
+        is_answered = call is None and (is_answer(entry.message) or is_unanswered(entry.message))
         if is_answered or not entry.is_stations:
             self.plan.admit(site, station)
             return ANSWERS if is_answered else SENT
@@ -181,6 +192,21 @@ class LogReader:
             Message(station, text, moment, origin, site or None, mends, came) for text in texts
         )
         return Read("messages", first, needs_time, note, tuple(more))
+
+    def note_left_out(self, entry: Entry) -> None:
+        """Notes a station whose message is left out for its version."""
+        if not is_name(entry.station):
+            return
+        version, at = entry.version or OLD_VERSION, self.find_moment(entry)[0]
+        site = self.plan.site_of.get(entry.station) or entry.site or ""
+        one = LeftOut(entry.station, version[:LONGEST_VERSION], site, at, at)
+        had = self.left_out.get((one.station, one.version))
+        self.left_out[one.station, one.version] = one if had is None else had.join(one)
+
+    def take_left_out(self) -> list[LeftOut]:
+        """The stations that were left out since the last call."""
+        found, self.left_out = [*self.left_out.values()], {}
+        return found
 
     def find_moment(self, entry: Entry) -> tuple[datetime | None, Refused | None]:
         """The moment of a line, or what is wrong with its time. No message is left out for its time."""

@@ -2,14 +2,14 @@
 
 import json
 from collections import OrderedDict
-from collections.abc import Iterable, Sequence
+from collections.abc import Iterable, Iterator, Sequence
 from dataclasses import dataclass, field
 from datetime import datetime, timezone
 from typing import Any, NamedTuple
 
 from ocpp_board.errors import StoreError
-from ocpp_board.records import Line
-from ocpp_board.store.database import Database, Row, SqliteDatabase
+from ocpp_board.records import LeftOut, Line
+from ocpp_board.store.database import Database, Row, SqliteDatabase, choose
 
 SESSION = """lines evse events voided first_number last_number complete missing gaps up down export_up export_down state
 began ended first_at last_at first_register last_register first_export_register last_export_register stopped_reason
@@ -17,8 +17,11 @@ sent_id token token_type remote_start_id signed holes reading_moments boundary_m
 received_until""".split()
 # The columns of a line, in the order of `records.Line`.
 LINE = "station transaction_id number line received who why origin".split()
-# Those columns of a transaction that have what its station sent.
-SENT = ("stopped_reason", "sent_id", "token", "token_type", "remote_start_id", "signed")
+# The places of those columns of a transaction that have what its station sent.
+SENT = [
+    SESSION.index(name)
+    for name in ("stopped_reason", "sent_id", "token", "token_type", "remote_start_id", "signed")
+]
 PART = "starts up down export_up export_down on_board measured shared numbers_missing".split()
 FINDING = "kind times first_at detail".split()
 OF_SESSION = "station = :station and transaction_id = :transaction"
@@ -28,14 +31,6 @@ MOST_TEXTS = 1_000
 MANY, ONE_OF_MANY = "many", "one of many"
 # Characters of the places of a text that are kept.
 LONGEST_ORIGINS = 4_000
-
-
-def insert_text(table: str, keys: Sequence[str], columns: Sequence[str]) -> str:
-    """A statement that inserts a row, or writes its other columns where it is there."""
-    names = [*keys, *columns]
-    changes = ", ".join(f"{name} = excluded.{name}" for name in columns)
-    return f"""insert into {table} ({', '.join(names)}) values ({', '.join(f':{name}' for name in names)})
-    on conflict ({', '.join(keys)}) do update set {changes}"""
 
 
 KEYS = ("station", "transaction_id")
@@ -78,6 +73,14 @@ insert into mended (station, digest, transaction_id, number, at, mends, came, or
 values (:station, :digest, :transaction, :number, :at, :mends, :came, :origin)
 on conflict (station, digest) do nothing
 """
+ADD_LEFT_OUT = """
+insert into left_out (station, version, site, first_at, last_at) values (:station, :version, :site, :first_at, :last_at)
+on conflict (station, version) do update set
+    first_at = /*sqlite min*/ /*postgresql least*/ (coalesce(left_out.first_at, excluded.first_at),
+        coalesce(excluded.first_at, left_out.first_at)),
+    last_at = /*sqlite max*/ /*postgresql greatest*/ (coalesce(left_out.last_at, excluded.last_at),
+        coalesce(excluded.last_at, left_out.last_at))
+"""
 ADD_DEED = """
 insert into deed (station, transaction_id, number, word, at, origin, who, why, outcome, name, count)
 values (:station, :transaction, :number, :word, :at, :origin, :who, :why, :outcome, :name, :count)
@@ -95,6 +98,8 @@ class Held(NamedTuple):
     refusals: list[Row]
     # What else is stored of it, where that is known.
     kept: "Kept | None" = None
+    # The order of its readings, where that is not the site's.
+    own_order: str = ""
 
 
 def name_keys(keys: Iterable[Key]) -> list[dict[str, str]]:
@@ -102,20 +107,22 @@ def name_keys(keys: Iterable[Key]) -> list[dict[str, str]]:
     return [{"station": station, "transaction": transaction} for station, transaction in keys]
 
 
-def find_sites(store: Database, stations: Sequence[str]) -> dict[str, str]:
-    """The sites of those of these stations that are planned."""
-    asked = "select station, site from station where station = :station"
+def find_stations(store: Database, stations: Sequence[str]) -> dict[str, Row]:
+    """Those of these stations that are planned: the site and the power of each."""
+    asked = "select station, site, most_kw from station where station"
     if not stations:
         return {}
     if store.kind == "postgresql":
-        rows = store.fetch(
-            "select station, site from station where station = any(:stations)",
-            stations=list(stations),
-        )
+        rows = store.fetch(f"{asked} = any(:stations)", stations=list(stations))
     else:
-        some = store.fetch_each(asked, [{"station": station} for station in stations])
+        some = store.fetch_each(f"{asked} = :station", [{"station": one} for one in stations])
         rows = [row for one in some for row in one]
-    return {row.station: row.site for row in rows}
+    return {row.station: row for row in rows}
+
+
+def find_sites(store: Database, stations: Sequence[str]) -> dict[str, str]:
+    """The sites of those of these stations that are planned."""
+    return {station: row.site for station, row in find_stations(store, stations).items()}
 
 
 def fetch_keyed(
@@ -171,24 +178,24 @@ def hold_sessions(
             keys=json.dumps([{"s": key[0], "t": key[1], "site": sites[key]} for key in keys]),
         )
     lock = "for update" if store.kind == "postgresql" else ""
-    had = fetch_keyed(store, "site, lines, changed_at", "session", keys, lock)
+    had = fetch_keyed(store, "site, lines, changed_at, own_order", "session", keys, lock)
     kept = {
         key: one
         for key, rows in zip(keys, had)
-        if rows and warm and (one := warm.find(key, rows[0].lines, rows[0].changed_at))
+        if rows and warm and (one := warm.take(key, rows[0].lines, rows[0].changed_at))
     }
     stored = [key for key, rows in zip(keys, had) if rows and rows[0].lines and key not in kept]
     lines = dict(zip(stored, read_lines(store, stored)))
     refusals = dict(zip(keys, read_refusals(store, keys)))
     found = dict[Key, Held]()
     for key, rows in zip(keys, had):
-        site = rows[0].site if rows else sites[key]
+        site, order = (rows[0].site, rows[0].own_order) if rows else (sites[key], "")
         if key in kept:
-            found[key] = Held(site, kept[key].lines, refusals[key], kept[key])
+            found[key] = Held(site, kept[key].lines, refusals[key], kept[key], order)
             continue
         own = lines.get(key, [])
         # A transaction without lines has no other rows.
-        found[key] = Held(site, own, refusals[key], None if own else Kept())
+        found[key] = Held(site, own, refusals[key], None if own else Kept(), order)
         if rows and len(own) != rows[0].lines:
             raise StoreError(
                 f"transaction {key[1]} of {key[0]} has not the lines that its row counts"
@@ -213,95 +220,91 @@ def read_refusals(store: Database, keys: Sequence[Key]) -> Iterable[list[Row]]:
 
 # What a process stored last ------------------------------------------------------------------------------------------
 
+Values = tuple[Any, ...]  # Those of a row, in the order of its columns.
+
 
 @dataclass(slots=True)
 class Kept:
-    """The lines of a transaction, and the rows of its periods and findings by the first of their columns."""
+    """The lines of a transaction, the rows of its periods and findings by the first of their columns, and what the
+    ledger knows of its lines."""
 
     lines: list[Line] = field(default_factory=list)
-    parts: dict[Any, tuple[Any, ...]] = field(default_factory=dict)
-    findings: dict[Any, tuple[Any, ...]] = field(default_factory=dict)
+    parts: dict[Any, Values] = field(default_factory=dict)
+    findings: dict[Any, Values] = field(default_factory=dict)
     changed_at: datetime | None = None
-    size: int = 0
+    course: Any = None
+
+    def measure(self) -> int:
+        """About how many bytes it takes."""
+        return sum(len(line.text) for line in self.lines) + 1_500 * len(self.lines) + 1_000
 
 
 class Warm:
     """What a process stored last of transactions, so that it needn't read it again. It counts while the transaction's
     row has the count of lines and the moment of change that this process wrote."""
 
-    def __init__(self, most: int = 64 * 1_048_576) -> None:
-        """`most`: characters of lines that are kept."""
+    def __init__(self, most: int = 256 * 1_048_576) -> None:
+        """`most`: about how many bytes are kept."""
         self.most, self.size = most, 0
-        self.kept = OrderedDict[Key, Kept]()
+        self.kept = OrderedDict[Key, tuple[Kept, int]]()
 
-    def find(self, key: Key, lines: int, changed_at: datetime | None) -> Kept | None:
-        """What is kept of a transaction, where that is what is stored."""
-        kept = self.kept.get(key)
-        if kept is None:
+    def take(self, key: Key, lines: int, changed_at: datetime | None) -> Kept | None:
+        """Takes out what is kept of a transaction; none where something else is stored."""
+        if key not in self.kept:
             return None
-        if changed_at is None or (len(kept.lines), kept.changed_at) != (lines, changed_at):
-            self.drop(key)
-            return None
-        self.kept.move_to_end(key)
-        return kept
-
-    def drop(self, key: Key) -> None:
-        """Keeps nothing of a transaction."""
-        if kept := self.kept.pop(key, None):
-            self.size -= kept.size
+        kept, size = self.kept.pop(key)
+        self.size -= size
+        is_stored = changed_at is not None and (len(kept.lines), kept.changed_at) == (
+            lines,
+            changed_at,
+        )
+        return kept if is_stored else None
 
     def keep(self, key: Key, kept: Kept) -> None:
         """Keeps what was committed of a transaction; others go where there is no room."""
-        self.drop(key)
-        kept.size = sum(len(line.text) for line in kept.lines) + 1_000
-        self.kept[key] = kept
-        self.size += kept.size
+        size = kept.measure()
+        self.kept[key] = kept, size
+        self.size += size
         while self.size > self.most:
-            self.drop(next(iter(self.kept)))
+            _, (_, size) = self.kept.popitem(last=False)
+            self.size -= size
 
 
 # Writing -------------------------------------------------------------------------------------------------------------
 
 
+class Written(NamedTuple):
+    """What a transaction has in the store from now on. `accepted`: its new lines; `course`: what the ledger knows of
+    all."""
+
+    held: Held
+    accepted: Sequence[Line]
+    session: Values
+    parts: Sequence[Values]
+    findings: Sequence[Values]
+    course: Any
+
+
 class Writer:
     """Collects what changed of transactions, and writes it, each table by one statement in PostgreSQL."""
 
-    def __init__(self, store: Database, keeps: bool = False) -> None:
-        """`keeps`: what is written is kept, too."""
-        self.store, self.keeps = store, keeps
-        self.at = datetime.now(timezone.utc)
-        self.lines: list[tuple[Any, ...]] = []
-        self.sessions: list[dict[str, Any]] = []
-        self.rows: dict[Key, tuple[Held, list[dict[str, Any]], list[dict[str, Any]]]] = {}
+    def __init__(self, store: Database) -> None:
+        self.store, self.at = store, datetime.now(timezone.utc)
+        self.rows: dict[Key, Written] = {}
         self.empty: list[Key] = []
-        # What is stored of transactions once the database transaction is committed.
-        self.kept: dict[Key, Kept] = {}
 
-    def add(
-        self,
-        key: Key,
-        held: Held,
-        accepted: Sequence[Line],
-        session: dict[str, Any],
-        parts: list[dict[str, Any]],
-        findings: list[dict[str, Any]],
-    ) -> None:
-        """Collects the accepted lines of a transaction, and its rows."""
-        front = {"station": key[0], "transaction_id": key[1]}
-        self.lines += [(*key, *line) for line in accepted]
-        for name in SENT:
-            session[name] = clean_text(session[name])
-        self.sessions.append(front | {"site": held.site, "changed_at": self.at} | session)
-        self.rows[key] = held, parts, findings
-        if self.keeps:
-            self.kept[key] = Kept(
-                [*held.lines, *accepted],
-                {one["starts"]: tuple(one.values()) for one in parts},
-                {one["kind"]: tuple(one.values()) for one in findings},
-                self.at,
-            )
-        if len(self.sessions) >= WRITTEN_AT_ONCE:
+    def add(self, key: Key, one: Written) -> Kept:
+        """Collects what a transaction has, and gives what is to be kept of it once it is committed."""
+        self.rows[key] = one
+        if len(self.rows) >= WRITTEN_AT_ONCE:
             self.write()
+        return Kept(
+            [*one.held.lines, *one.accepted],
+            {row[0]: row for row in one.parts},
+            {row[0]: row for row in one.findings},
+            self.at,
+            one.course,
+        )
 
     def drop_empty(self, key: Key) -> None:
         """Collects a transaction that was held and has no lines: its row goes again."""
@@ -310,106 +313,128 @@ class Writer:
 
     def write(self) -> None:
         """Writes what was collected."""
-        if self.lines:
-            insert_lines(self.store, self.lines)
-        columns = ["site", *SESSION, "changed_at"]
-        write_each(self.store, "session", KEYS, columns, self.sessions, compared=SESSION)
-        unknown = sorted(key for key, (held, _, _) in self.rows.items() if held.kept is None)
-        for table, columns, place in (("part", PART, 1), ("finding", FINDING, 2)):
-            had = dict(zip(unknown, fetch_keyed(self.store, ", ".join(columns), table, unknown)))
-            before = dict[Key, dict[Any, tuple[Any, ...]]]()
+        lines = [(*key, *line) for key, one in self.rows.items() for line in one.accepted]
+        insert_rows(self.store, "line", LINE, lines)
+        sessions = [
+            (*key, one.held.site, self.at, *clean_session(one.session))
+            for key, one in self.rows.items()
+        ]
+        columns = [*KEYS, "site", "changed_at", *SESSION]
+        write_rows(self.store, "session", columns, KEYS, sessions, compared=SESSION)
+        unknown = sorted(key for key, one in self.rows.items() if one.held.kept is None)
+        parts = {key: one.parts for key, one in self.rows.items()}
+        findings = {key: one.findings for key, one in self.rows.items()}
+        for table, columns, rows in (("part", PART, parts), ("finding", FINDING, findings)):
+            before = dict(zip(unknown, read_by_first(self.store, table, columns, unknown)))
             for key, one in self.rows.items():
-                if kept := one[0].kept:
-                    before[key] = dict(kept.parts if place == 1 else kept.findings)
-                else:
-                    before[key] = {
-                        getattr(row, columns[0]): tuple(getattr(row, name) for name in columns)
-                        for row in had[key]
-                    }
-            own = {key: one[1] if place == 1 else one[2] for key, one in self.rows.items()}
-            write_differences(self.store, table, columns, before, own)
+                if kept := one.held.kept:
+                    before[key] = kept.parts if table == "part" else kept.findings
+            write_differences(self.store, table, columns, before, rows)
         if self.empty:
             delete_each(self.store, "session", self.empty)
-        self.lines, self.sessions, self.rows, self.empty = [], [], {}, []
+        self.rows, self.empty = {}, []
 
 
-def insert_lines(store: Database, rows: Sequence[tuple[Any, ...]]) -> None:
-    """Adds lines, each with the values of LINE; one that is there fails."""
-    names = ", ".join(LINE)
-    if isinstance(store, SqliteDatabase):
-        store.insert_rows(f"insert into line ({names}) values ({', '.join('?' * len(LINE))})", rows)
-        return
-    # PostgreSQL has a type `line` of its own, so the table's can't be named here.
-    store.execute(
-        f"""insert into line ({names}) select {names} from json_to_recordset(:rows) as r (station text,
-        transaction_id text, number int, received timestamptz, line text, who text, origin text, why text)""",
-        rows=json.dumps([dict(zip(LINE, row)) for row in rows], default=datetime.isoformat),
-    )
+def read_by_first(
+    store: Database, table: str, columns: Sequence[str], keys: Sequence[Key]
+) -> Iterator[dict[Any, Values]]:
+    """The rows of each of these transactions by the first of these columns."""
+    for rows in fetch_keyed(store, ", ".join(columns), table, keys):
+        values = [tuple(getattr(row, name) for name in columns) for row in rows]
+        yield {one[0]: one for one in values}
+
+
+def clean_session(session: Values) -> Values:
+    """The row of a transaction, its texts as both databases keep them."""
+    if all(session[place].isascii() and "\0" not in session[place] for place in SENT):
+        return session
+    return tuple(clean_text(one) if n in SENT else one for n, one in enumerate(session))
 
 
 def clean_text(text: str) -> str:
     """A text as both databases keep it: without the character 0, and without half a surrogate pair."""
-    if text.isascii() and "\0" not in text:
-        return text
     return text.replace("\0", "\ufffd").encode("utf-8", "replace").decode()
 
 
-def write_each(
-    store: Database,
-    table: str,
-    keys: Sequence[str],
-    columns: Sequence[str],
-    rows: Sequence[dict[str, Any]],
-    compared: Sequence[str] = (),
+def write_json(columns: Sequence[str], rows: Iterable[Values]) -> str:
+    """Rows as the JSON of a table."""
+    return json.dumps([dict(zip(columns, row)) for row in rows], default=datetime.isoformat)
+
+
+def insert_rows(
+    store: Database, table: str, columns: Sequence[str], rows: Sequence[Values], more: str = ""
 ) -> None:
-    """Inserts rows, or writes their other columns where they are there. `compared`: the columns of which one has to
-    differ for that."""
+    """Inserts rows, each with the values of these columns; without `more` one that is there fails."""
     if not rows:
         return
-    where = ""
+    names, marks = ", ".join(columns), ", ".join("?" * len(columns))
+    if isinstance(store, SqliteDatabase):
+        store.execute_rows(f"insert into {table} ({names}) values ({marks}) {more}", rows)
+    elif table == "line":
+        # PostgreSQL has a type `line` of its own, so the table's can't be named here.
+        store.execute(
+            f"""insert into line ({names}) select {names} from json_to_recordset(:rows) as r (station text,
+            transaction_id text, number int, received timestamptz, line text, who text, origin text, why text)""",
+            rows=write_json(columns, rows),
+        )
+    else:
+        store.execute(
+            f"""insert into {table} ({names}) select {names} from json_populate_recordset(null::{table}, :rows)
+            {more}""",
+            rows=write_json(columns, rows),
+        )
+
+
+def write_rows(
+    store: Database,
+    table: str,
+    columns: Sequence[str],
+    keys: Sequence[str],
+    rows: Sequence[Values],
+    compared: Sequence[str] = (),
+) -> None:
+    """Inserts rows, or writes their columns beside the keys where they are there. `compared`: the columns of which one
+    has to differ for that."""
+    changes = ", ".join(f"{name} = excluded.{name}" for name in columns if name not in keys)
+    more = f"on conflict ({', '.join(keys)}) do update set {changes}"
     if compared:
         had, has = (", ".join(f"{of}.{name}" for name in compared) for of in (table, "excluded"))
-        where = f" where ({had}) is distinct from ({has})"
-    if store.kind == "sqlite":
-        store.execute_each(insert_text(table, keys, columns) + where, rows)
-        return
-    names = ", ".join([*keys, *columns])
-    changes = ", ".join(f"{name} = excluded.{name}" for name in columns)
-    store.execute(
-        f"""insert into {table} ({names}) select {names} from json_populate_recordset(null::{table}, :rows)
-        on conflict ({', '.join(keys)}) do update set {changes}{where}""",
-        rows=json.dumps(rows, default=datetime.isoformat),
-    )
+        more += f" where ({had}) is distinct from ({has})"
+    insert_rows(store, table, columns, rows, more)
 
 
 def write_differences(
     store: Database,
     table: str,
     columns: Sequence[str],
-    before: dict[Key, dict[Any, tuple[Any, ...]]],
-    own: dict[Key, list[dict[str, Any]]],
+    before: dict[Key, dict[Any, Values]],
+    own: dict[Key, Sequence[Values]],
 ) -> None:
     """Writes the rows of transactions in `part` or `finding`: those that are not there or differ; others go."""
-    name = columns[0]
-    more, gone = list[dict[str, Any]](), list[dict[str, Any]]()
+    keys = [*KEYS, columns[0]]
+    more, gone = list[Values](), list[Values]()
     for key, rows in own.items():
-        front, had = {"station": key[0], "transaction_id": key[1]}, before[key]
-        for one in rows:
-            if had.pop(one[name], None) != tuple(one.values()):
-                more.append(front | one)
-        gone += [front | {name: value} for value in had]
-    if gone and store.kind == "sqlite":
-        where = f"station = :station and transaction_id = :transaction_id and {name} = :{name}"
-        store.execute_each(f"delete from {table} where {where}", gone)
-    elif gone:
-        store.execute(
-            f"""delete from {table} t using json_populate_recordset(null::{table}, :rows) g
-            where t.station = g.station and t.transaction_id = g.transaction_id and t.{name} = g.{name}
-                and t.station = any(:stations)""",
-            rows=json.dumps(gone, default=datetime.isoformat),
-            stations=list_stations((one["station"], "") for one in gone),
-        )
-    write_each(store, table, (*KEYS, name), columns[1:], more)
+        had = before[key]
+        more += [(*key, *one) for one in rows if had.get(one[0]) != one]
+        gone += [(*key, first) for first in had.keys() - {one[0] for one in rows}]
+    if gone:
+        delete_rows(store, table, keys, gone)
+    write_rows(store, table, [*KEYS, *columns], keys, more)
+
+
+def delete_rows(store: Database, table: str, keys: Sequence[str], rows: Sequence[Values]) -> None:
+    """Deletes the rows with these keys."""
+    if isinstance(store, SqliteDatabase):
+        where = " and ".join(f"{name} = ?" for name in keys)
+        store.execute_rows(f"delete from {table} where {where}", rows)
+        return
+    where = " and ".join(f"t.{name} = g.{name}" for name in keys)
+    store.execute(
+        f"""delete from {table} t using json_populate_recordset(null::{table}, :rows) g
+        where {where} and t.station = any(:stations)""",
+        rows=write_json(keys, rows),
+        stations=list_stations((row[0], row[1]) for row in rows),
+    )
 
 
 def delete_each(store: Database, table: str, keys: Sequence[Key]) -> None:
@@ -426,6 +451,12 @@ def find_digests(store: Database, station: str, cause: str) -> set[str]:
     """The digests of the texts of a station and a cause that are kept."""
     asked = "select digest from refusal where station = :station and cause = :cause"
     return {row.digest for row in store.fetch(asked, station=station, cause=cause)}
+
+
+def note_left_out(store: Database, found: Iterable[LeftOut]) -> None:
+    """Adds stations whose messages are left out for their version, within a database transaction."""
+    if rows := [one._asdict() for one in found]:
+        store.execute_each(choose(ADD_LEFT_OUT, store.kind), rows)
 
 
 def find_deeds(store: Database, keys: Sequence[dict[str, Any]]) -> list[Row | None]:

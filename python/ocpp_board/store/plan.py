@@ -2,7 +2,7 @@
 
 import json
 from collections.abc import Iterator
-from dataclasses import asdict, dataclass
+from dataclasses import asdict, dataclass, replace
 from datetime import datetime, timedelta, timezone
 from typing import Any
 from zoneinfo import ZoneInfo, ZoneInfoNotFoundError
@@ -14,7 +14,9 @@ from ocpp_board.limits import is_name
 from ocpp_board.records import Limits, Rules
 from ocpp_board.store.database import Database, Row
 
-RULES_COLUMNS = "period, reading_order, settle, zone, events, readings, most_kw"
+RULES_COLUMNS = (
+    "period, reading_order, settle, zone, events, readings, most_kw, reading_within, resolution"
+)
 # The advisory locks of PostgreSQL by sites: writers of lines share one, who changes a site's plan has it alone.
 SITE_LOCK = 7_201_402
 
@@ -30,7 +32,28 @@ class Author:
 def read_rules(row: Row) -> Rules:
     """The rules that a row of `site` has."""
     limits = Limits(row.events, row.readings)
-    return Rules(row.period, row.reading_order, row.settle, limits, row.zone, row.most_kw)
+    more = (row.most_kw, row.reading_within, row.resolution)
+    return Rules(row.period, row.reading_order, row.settle, limits, row.zone, *more)
+
+
+def own_rules(rules: Rules, own_order: str, most_kw: int | None) -> Rules:
+    """The rules of a transaction: those of its site, but for an order of its own and the power of its station."""
+    if own_order and own_order != rules.order:
+        rules = replace(rules, order=own_order)
+    return replace(rules, most_kw=most_kw) if most_kw and most_kw != rules.most_kw else rules
+
+
+def find_session_rules(store: Database, station: str, transaction: str) -> tuple[str, Rules] | None:
+    """The site and the rules of a transaction; None where there is none such."""
+    columns = ", ".join(f"i.{name}" for name in RULES_COLUMNS.split(", "))
+    row = store.fetch_one(
+        f"""select s.site, s.own_order, t.most_kw as own_kw, {columns}
+        from session s join site i on i.site = s.site left join station t on t.station = s.station
+        where s.station = :station and s.transaction_id = :transaction_id""",
+        station=station,
+        transaction_id=transaction,
+    )
+    return (row.site, own_rules(read_rules(row), row.own_order, row.own_kw)) if row else None
 
 
 def find_rules(store: Database, site: str) -> Rules | None:
@@ -58,6 +81,12 @@ def check_rules(rules: Rules, where: str) -> None:
             raise InputError(
                 f"{where}: {value} {name}; a transaction may keep 1 to {GREATEST_LIMITS[name]}"
             )
+    if not 0 < rules.reading_within <= 86_400:
+        raise InputError(
+            f"{where}: a reading within {rules.reading_within} seconds; give 1 to 86,400 seconds"
+        )
+    if not 0 <= rules.resolution <= 100_000:
+        raise InputError(f"{where}: a resolution of {rules.resolution} Wh; give 0 to 100,000 Wh")
     if not 0 < rules.most_kw <= 1_000_000:
         raise InputError(f"{where}: a power of {rules.most_kw} kW; give one from 1 to 1,000,000")
     open_zone(rules.zone, where)
@@ -114,11 +143,11 @@ def write_site(
             )
     store.execute(
         f"""insert into site (site, {RULES_COLUMNS}, place)
-        values (:site, :period, :order, :settle, :zone, :events, :readings, :most_kw,
+        values (:site, :period, :order, :settle, :zone, :events, :readings, :most_kw, :reading_within, :resolution,
             (select coalesce(max(place), 0) + 1 from site))
         on conflict (site) do update set period = excluded.period, reading_order = excluded.reading_order,
             settle = excluded.settle, zone = excluded.zone, events = excluded.events, readings = excluded.readings,
-            most_kw = excluded.most_kw""",
+            most_kw = excluded.most_kw, reading_within = excluded.reading_within, resolution = excluded.resolution""",
         site=site,
         **list_values(rules),
     )
@@ -134,7 +163,10 @@ def decide_figures(rules: Rules) -> tuple[Any, ...]:
 
 def decide_rows(rules: Rules) -> tuple[Any, ...]:
     """The rules that the rows of a transaction depend on."""
-    return rules.period, rules.order, rules.settle, rules.most_kw
+    return (
+        *(rules.period, rules.order, rules.settle, rules.most_kw),
+        *(rules.reading_within, rules.resolution),
+    )
 
 
 def list_values(rules: Rules) -> dict[str, Any]:
@@ -147,6 +179,8 @@ def list_values(rules: Rules) -> dict[str, Any]:
         "events": rules.limits.events,
         "readings": rules.limits.readings,
         "most_kw": rules.most_kw,
+        "reading_within": rules.reading_within,
+        "resolution": rules.resolution,
     }
 
 
@@ -181,6 +215,26 @@ def write_station(
     note_change(
         store, author, "station", station, before, json.dumps({"site": site, "retired": False})
     )
+    return True
+
+
+def write_power(
+    store: Database, station: str, most_kw: int, author: Author, where: str = "plan"
+) -> bool:
+    """Says the greatest power of a station's EVSEs in kW, within a database transaction. Returns whether it is another
+    one: whoever calls computes its rows again. Raises InputError."""
+    had = store.fetch_one("select most_kw from station where station = :station", station=station)
+    if had is None:
+        raise InputError(f"{where}: there is no station {station!r}")
+    if had.most_kw == most_kw:
+        return False
+    store.execute(
+        "update station set most_kw = :most_kw where station = :station",
+        station=station,
+        most_kw=most_kw,
+    )
+    before, after = (json.dumps({"most_kw": kw}) for kw in (had.most_kw, most_kw))
+    note_change(store, author, "station", station, before, after)
     return True
 
 

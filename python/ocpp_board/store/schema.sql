@@ -16,6 +16,8 @@ create table site (
     events int not null default 4096,           -- what a transaction may keep
     readings int not null default 16384,
     most_kw int not null default 400,           -- the greatest power of an EVSE that can be
+    reading_within int not null default 300,    -- seconds from a start or an end within which it has its reading
+    resolution int not null default 10,         -- Wh: a register that falls by less has not fallen
     most_open int not null default 0,           -- open transactions of a station, bytes a day, and messages a second
     most_bytes bigint not null default 0,       -- at a gateway, over a minute; 0: any number
     most_rate int not null default 0,
@@ -28,6 +30,7 @@ create table station (
     site text /*postgresql collate "C"*/ not null,
     since timestamptz,
     until timestamptz,                          -- when it was retired
+    most_kw int,                                -- the greatest power of its EVSEs, where it is not that of its site
     certificate text not null default '',
     heard_at timestamptz,                       -- when a gateway heard of it last
     place int not null default 0
@@ -134,6 +137,7 @@ create table session (
     first_boundary_at timestamptz,              -- and the first of these
     received_until timestamptz,
     changed_at timestamptz,
+    own_order text not null default '' check (own_order in ('', 'sequence', 'moment')),  -- where it is not the site's
     primary key (station, transaction_id)
 ) /*postgresql partition by hash (station)*/;
 create index session_site on session (site, station, evse, first_at, transaction_id);
@@ -226,6 +230,15 @@ create table stray (
     first_at timestamptz,
     last_at timestamptz,
     primary key (station, digest)
+);
+-- Stations whose messages are left out since they are of another version of OCPP.
+create table left_out (
+    station text /*postgresql collate "C"*/ not null,
+    version text not null,
+    site text /*postgresql collate "C"*/ not null default '',              -- as the source names it
+    first_at timestamptz,
+    last_at timestamptz,
+    primary key (station, version)
 );
 -- Messages that were mended before they were taken. `mends`: the faults; `came`: the text as the station sent it;
 -- `digest`: that of the text.

@@ -87,10 +87,15 @@ create view energy as
     from evse_period e join site i on i.site = e.site
     join zone_offset z on z.zone = i.zone and e.starts >= z.since and e.starts < z.until;
 
--- The transactions that are not complete: what they lack, and since when nothing came of them.
+-- The transactions that are not complete and that nobody settled by rule: what they lack, what they imported so far, and
+-- when something came of them last (`heard_at`), by receipt where that is known. Running ones are those of which
+-- something came lately.
 create view lacking as
-    select site, station, transaction_id, sent_id, evse, state, missing, gaps, first_at, last_at, received_until, changed_at
-    from session where events > 0 and not complete;
+    select s.site, s.station, s.transaction_id, s.sent_id, s.evse, s.state, s.missing, s.gaps, s.first_at, s.last_at,
+        s.received_until, s.changed_at, s.up - s.down as imported, coalesce(s.received_until, s.last_at) as heard_at
+    from session s
+    left join rule_settled r on r.station = s.station and r.transaction_id = s.transaction_id
+    where s.events > 0 and not s.complete and r.station is null;
 
 -- When something was heard of each planned station last, and the last moment that a transaction of it names.
 create view silent_station as
