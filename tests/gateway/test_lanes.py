@@ -102,11 +102,14 @@ def test_a_process_that_is_stopped_lets_go_of_what_it_holds(
         store = first.open_store()
         with pytest.raises(StoreAway):
             with store.transaction():
-                store.execute("insert into session (station, transaction_id, site) values ('CS-0', 't', 'depot')")
+                store.execute(
+                    "insert into session (station, transaction_id, site) values ('CS-0', 't', 'depot')"
+                )
                 beside = threads.submit(settle_beside)
                 time.sleep(0.5)
                 assert not beside.done()
                 assert beside.result(20) == make_reply("t", 0)
                 store.fetch("select lines from session where station = 'CS-0'")
         store.close()
+    monkeypatch.undo()
     assert [one.outcome for one in first.settle(asked)] == ["repeat"]

@@ -6,7 +6,7 @@ answer is given only after the commit. A failure gives none, and the same may co
 """
 
 import re
-from collections.abc import Callable, Iterable, Iterator, Sequence
+from collections.abc import Callable, Collection, Iterable, Iterator, Sequence
 from contextlib import AbstractContextManager, nullcontext
 from dataclasses import dataclass, field
 from datetime import datetime, timezone
@@ -46,7 +46,15 @@ from ocpp_board.records import Answer, Asked, Deed, Line, Message, Rules, Untake
 from ocpp_board.store import lines as store_lines
 from ocpp_board.store.database import Database, Row, choose
 from ocpp_board.store.lines import Held, Kept, Key, Warm, Writer
-from ocpp_board.store.plan import RULES_COLUMNS, Author, lock_sites, read_rules, write_site
+from ocpp_board.store.plan import (
+    RULES_COLUMNS,
+    Author,
+    Planned,
+    find_planned,
+    read_rules,
+    share_sites,
+    write_site,
+)
 
 # An origin that is a place in a file, such as `csms.log:17`.
 PLACE = re.compile(r"(?!.*://).*:[0-9]+")
@@ -227,16 +235,17 @@ def write_batch(
     store: Database, batch: Batch, pool: Pool | None, warm: Warm | None, foreseen: Foreseen
 ) -> dict[Key, Kept]:
     """Writes what a batch changes, within a database transaction, and answers the rest of it."""
-    sites = hold_sites(store, batch)
+    planned = hold_sites(store, batch, warm)
+    sites = planned.sites
     leave_strays(batch, sites)
     refuse_strays(store, batch)
-    refuse_by_quotas(store, batch, sites)
+    refuse_by_quotas(store, batch, planned)
     held = store_lines.hold_sessions(
         store, {key: sites[key[0]] for key in batch.sessions if key[0] in sites}, warm
     )
     deeds = find_done(store, batch)
     batch.answers |= deeds
-    works = make_works(store, batch, held, deeds)
+    works = make_works(store, batch, held, deeds, planned)
     writer = Writer(store, warm is not None)
     for key, work, done in work_on(works, pool, foreseen):
         take_answers(writer, batch, work, done, held[key], deeds)
@@ -249,10 +258,16 @@ def write_batch(
 
 
 def make_works(
-    store: Database, batch: Batch, held: dict[Key, Held], deeds: dict[int, Answer]
+    store: Database,
+    batch: Batch,
+    held: dict[Key, Held],
+    deeds: dict[int, Answer],
+    planned: Planned,
 ) -> dict[Key, Work]:
     """The works of transactions that are held."""
-    rules = find_all_rules(store, {one.site for one in held.values()})
+    # A station that moved leaves the transactions that it began where they are.
+    others = {one.site for one in held.values()} - planned.rules.keys()
+    rules = planned.rules | find_all_rules(store, others)
     works = dict[Key, Work]()
     for key, one in held.items():
         new = list_new(batch, batch.sessions[key], deeds)
@@ -263,25 +278,26 @@ def make_works(
 def foresee(store: Database, batch: Batch) -> Foreseen:
     """What will become of a batch's transactions, if nobody changes them meanwhile."""
     with store.snapshot():
-        sites = store_lines.find_sites(store, sorted({key[0] for key in batch.sessions}))
+        planned = find_planned(store, sorted({key[0] for key in batch.sessions}))
+        sites = planned.sites
         known = {key: sites[key[0]] for key in batch.sessions if key[0] in sites}
-        works = make_works(
-            store, batch, store_lines.hold_sessions(store, known), find_done(store, batch)
-        )
+        held = store_lines.hold_sessions(store, known)
+        works = make_works(store, batch, held, find_done(store, batch), planned)
     return {key: (work, done) for key, work, done in work_on(works, None)}
 
 
-def hold_sites(store: Database, batch: Batch) -> dict[str, str]:
-    """The sites of the batch's stations; their plan does not change up to the end of the database transaction."""
+def hold_sites(store: Database, batch: Batch, warm: Warm | None) -> Planned:
+    """What the plan has of the batch's stations; it does not change up to the end of the database transaction."""
     stations = sorted({key[0] for key in batch.sessions} | {one.station for one in batch.others})
+    if store.kind != "postgresql":
+        return find_planned(store, stations)
+    # Transactions that a station began at another site have that one's rules.
+    others = store_lines.find_session_sites(store, list(batch.sessions), warm)
     while True:
-        sites = store_lines.find_sites(store, stations)
-        if store.kind != "postgresql":
-            return sites
-        known = store_lines.find_session_sites(store, list(batch.sessions))
-        lock_sites(store, [*sites.values(), *known.values()], False)
-        if store_lines.find_sites(store, stations) == sites:
-            return sites
+        shared = share_sites(store, stations, others)
+        planned = find_planned(store, stations)
+        if shared.issuperset(planned.sites.values()):
+            return planned
 
 
 def leave_strays(batch: Batch, sites: dict[str, str]) -> None:
@@ -312,7 +328,7 @@ def refuse_strays(store: Database, batch: Batch) -> None:
     batch.strays = [one for one, key in zip(batch.strays, texts) if key not in above]
 
 
-def refuse_by_quotas(store: Database, batch: Batch, sites: dict[str, str]) -> None:
+def refuse_by_quotas(store: Database, batch: Batch, planned: Planned) -> None:
     """Answers messages that are above a quota of their site, which change nothing."""
     asking = [
         Asking(place, one, key)
@@ -324,10 +340,10 @@ def refuse_by_quotas(store: Database, batch: Batch, sites: dict[str, str]) -> No
     asking += [
         Asking(place, one, None)
         for place, one in enumerate(batch.asked)
-        if id(one) in values and isinstance(one, Message) and one.station in sites
+        if id(one) in values and isinstance(one, Message) and one.station in planned.sites
     ]
     asking.sort(key=attrgetter("place"))
-    for place, name in find_refused(store, asking, sites).items():
+    for place, name in find_refused(store, asking, planned).items():
         one = batch.asked[place]
         assert isinstance(one, Message)
         key = (one.station, batch.wishes[place].text)
@@ -349,8 +365,10 @@ def refuse_message(batch: Batch, place: int, name: str) -> None:
     batch.answers[place] = Answer("refused", name, write_reply(one.text, name))
 
 
-def find_all_rules(store: Database, sites: Iterable[str]) -> dict[str, Rules]:
+def find_all_rules(store: Database, sites: Collection[str]) -> dict[str, Rules]:
     """The rules of sites."""
+    if not sites:
+        return {}
     asked = f"select site, {RULES_COLUMNS} from site where site"
     if store.kind == "postgresql":
         rows = store.fetch(f"{asked} = any(:sites)", sites=sorted(sites))

@@ -5,25 +5,19 @@ may keep is in the site's rules; messages a second are counted by the gateway th
 """
 
 import json
-from collections.abc import Mapping, Sequence
+from collections.abc import Sequence
 from datetime import datetime, timezone
 from typing import NamedTuple
 
 from ocpp_board.records import Message
-from ocpp_board.store.database import Database, Row
+from ocpp_board.store.database import Database
 from ocpp_board.store.lines import Key
+from ocpp_board.store.plan import Planned
 
 TOO_MANY_OPEN, TOO_MANY_BYTES = "TooManyOpen", "TooManyBytes"
 TOO_MANY_MESSAGES, TOO_MANY_STRAYS = "TooManyMessages", "TooManyStrays"
 # Texts that are kept of a station that no site has.
 MOST_STRAYS = 50_000
-
-
-class Quota(NamedTuple):
-    """A site's quotas for each of its stations; 0: any number."""
-
-    open: int
-    bytes: int
 
 
 class Asking(NamedTuple):
@@ -34,31 +28,17 @@ class Asking(NamedTuple):
     key: Key | None
 
 
-def find_quotas(store: Database, sites: Sequence[str]) -> dict[str, Quota]:
-    """The quotas of those of these sites that have some."""
-    asked = "select site, most_open, most_bytes from site where (most_open > 0 or most_bytes > 0) and site"
-    if store.kind == "postgresql":
-        rows: list[Row] = store.fetch(f"{asked} = any(:sites)", sites=list(sites))
-    else:
-        some = store.fetch_each(f"{asked} = :site", [{"site": site} for site in sites])
-        rows = [row for one in some for row in one]
-    return {row.site: Quota(row.most_open, row.most_bytes) for row in rows}
-
-
-def find_refused(
-    store: Database, asking: Sequence[Asking], sites: Mapping[str, str]
-) -> dict[int, str]:
+def find_refused(store: Database, asking: Sequence[Asking], planned: Planned) -> dict[int, str]:
     """The places of messages that are above a quota, each with the quota's name; what the others have is counted. The
     database transaction holds the sites of these stations."""
-    quotas = find_quotas(store, sorted(set(sites.values())))
-    if not quotas:
+    limited = {site for site, quota in planned.quotas.items() if any(quota)}
+    if not limited:
         return {}
-    refused = dict[int, str]()
-    stations = {one.message.station for one in asking if sites[one.message.station] in quotas}
+    refused, sites = dict[int, str](), planned.sites
+    stations = {one.message.station for one in asking if sites[one.message.station] in limited}
     for station in sorted(stations):
-        quota, own = quotas[sites[station]], [
-            one for one in asking if one.message.station == station
-        ]
+        quota = planned.quotas[sites[station]]
+        own = [one for one in asking if one.message.station == station]
         if quota.open:
             refused |= refuse_open(store, station, quota.open, own)
         if quota.bytes:

@@ -4,12 +4,12 @@ import json
 from collections import OrderedDict
 from collections.abc import Iterable, Sequence
 from dataclasses import dataclass, field
-from datetime import datetime, timezone
+from datetime import datetime, timedelta, timezone
 from typing import Any, NamedTuple
 
 from ocpp_board.errors import StoreError
 from ocpp_board.records import Line
-from ocpp_board.store.database import Database, Row, SqliteDatabase
+from ocpp_board.store.database import Database, Row, SqliteDatabase, choose, write_moment
 
 SESSION = """lines evse events voided first_number last_number complete missing gaps up down export_up export_down state
 began ended first_at last_at first_register last_register first_export_register last_export_register stopped_reason
@@ -21,6 +21,12 @@ LINE = "station transaction_id number line received who why origin".split()
 SENT = ("stopped_reason", "sent_id", "token", "token_type", "remote_start_id", "signed")
 PART = "starts up down export_up export_down on_board measured shared numbers_missing".split()
 FINDING = "kind times first_at detail".split()
+# What is refused and matters to the rows of its transaction.
+OF_ROWS = "cause in ('ConflictingEvent', 'Untaken')"
+# When a row of `session` was changed, as a whole number, which costs little to read.
+CHANGED = (
+    "/*sqlite changed_at*/ /*postgresql cast(extract(epoch from changed_at) * 1000000 as bigint)*/"
+)
 OF_SESSION = "station = :station and transaction_id = :transaction"
 # Texts of a station and a cause that are kept each; further ones are one row.
 MOST_TEXTS = 1_000
@@ -39,6 +45,7 @@ def insert_text(table: str, keys: Sequence[str], columns: Sequence[str]) -> str:
 
 
 KEYS = ("station", "transaction_id")
+EPOCH, MICROSECOND = datetime(1970, 1, 1, tzinfo=timezone.utc), timedelta(microseconds=1)
 # Transactions whose rows are written at once.
 WRITTEN_AT_ONCE = 1_000
 # A text that came again is counted, but for one of a place that was read before.
@@ -145,10 +152,16 @@ def list_stations(keys: Iterable[Key]) -> list[str]:
     return sorted({key[0] for key in keys})
 
 
-def find_session_sites(store: Database, keys: Sequence[Key]) -> dict[Key, str]:
+def find_session_sites(
+    store: Database, keys: Sequence[Key], warm: "Warm | None" = None
+) -> set[str]:
     """The sites of those of these transactions that are stored."""
-    found = fetch_keyed(store, "site", "session", keys)
-    return {key: rows[0].site for key, rows in zip(keys, found) if rows}
+    kept: dict[Key, Kept] = {} if warm is None else warm.kept
+    unknown = [key for key in keys if key not in kept]
+    found = fetch_keyed(store, "site", "session", unknown)
+    return {kept[key].site for key in keys if key in kept} | {
+        row.site for one in found for row in one
+    }
 
 
 def hold_sessions(
@@ -158,37 +171,50 @@ def hold_sessions(
     stored of them. `sites`: those of the ones that are not stored; `warm`: what this process stored last.
     """
     keys = sorted(sites)
-    if store.kind == "postgresql" and keys:
-        store.execute(
-            """insert into session (station, transaction_id, site) select s, t, site
-            from json_to_recordset(:keys) as k (s text, t text, site text)
-            on conflict (station, transaction_id) do nothing""",
-            keys=json.dumps([{"s": key[0], "t": key[1], "site": sites[key]} for key in keys]),
-        )
-    lock = "for update" if store.kind == "postgresql" else ""
-    had = fetch_keyed(store, "site, lines, changed_at", "session", keys, lock)
+    had = lock_rows(store, sites, warm)
     kept = {
         key: one
         for key, rows in zip(keys, had)
-        if rows and warm and (one := warm.find(key, rows[0].lines, rows[0].changed_at))
+        if rows and warm and (one := warm.find(key, rows[0].lines, rows[0].changed))
     }
     stored = [key for key, rows in zip(keys, had) if rows and rows[0].lines and key not in kept]
     lines = dict(zip(stored, read_lines(store, stored)))
-    refusals = dict(zip(keys, read_refusals(store, keys)))
+    refusals = read_some_refusals(store, keys)
     found = dict[Key, Held]()
     for key, rows in zip(keys, had):
         site = rows[0].site if rows else sites[key]
+        refused = refusals.get(key, [])
         if key in kept:
-            found[key] = Held(site, kept[key].lines, refusals[key], kept[key])
+            found[key] = Held(site, kept[key].lines, refused, kept[key])
             continue
         own = lines.get(key, [])
         # A transaction without lines has no other rows.
-        found[key] = Held(site, own, refusals[key], None if own else Kept())
+        found[key] = Held(site, own, refused, None if own else Kept())
         if rows and len(own) != rows[0].lines:
             raise StoreError(
                 f"transaction {key[1]} of {key[0]} has not the lines that its row counts"
             )
     return found
+
+
+def lock_rows(store: Database, sites: dict[Key, str], warm: "Warm | None") -> list[list[Row]]:
+    """The rows of these transactions, in the order of their keys: in PostgreSQL they are there then, and held."""
+    keys, columns = sorted(sites), f"site, lines, {choose(CHANGED, store.kind)} as changed"
+    if store.kind != "postgresql":
+        return fetch_keyed(store, columns, "session", keys)
+    new = [key for key in keys if not (warm and key in warm.kept)]
+    while True:
+        if new:
+            store.execute(
+                """insert into session (station, transaction_id, site) select s, t, site
+                from json_to_recordset(:keys) as k (s text, t text, site text)
+                on conflict (station, transaction_id) do nothing""",
+                keys=json.dumps([{"s": key[0], "t": key[1], "site": sites[key]} for key in new]),
+            )
+        had = fetch_keyed(store, columns, "session", keys, "for update")
+        new = [key for key, rows in zip(keys, had) if not rows]
+        if not new:
+            return had
 
 
 def read_lines(store: Database, keys: Sequence[Key]) -> Iterable[list[Line]]:
@@ -202,11 +228,22 @@ def read_lines(store: Database, keys: Sequence[Key]) -> Iterable[list[Line]]:
 
 def read_refusals(store: Database, keys: Sequence[Key]) -> Iterable[list[Row]]:
     """What was refused of each of these transactions and matters to its rows."""
-    columns, more = (
-        "cause, digest, number, text, times",
-        "and cause in ('ConflictingEvent', 'Untaken')",
+    return fetch_keyed(
+        store, "cause, digest, number, text, times", "refusal", keys, f"and {OF_ROWS}"
     )
-    return fetch_keyed(store, columns, "refusal", keys, more)
+
+
+def read_some_refusals(store: Database, keys: Sequence[Key]) -> dict[Key, list[Row]]:
+    """The same of those of these transactions of which something was refused."""
+    if store.kind == "postgresql" and keys:
+        # Most stations have none.
+        rows = store.fetch(
+            f"select distinct station from refusal where station = any(:stations) and {OF_ROWS}",
+            stations=list_stations(keys),
+        )
+        stations = {row.station for row in rows}
+        keys = [key for key in keys if key[0] in stations]
+    return dict(zip(keys, read_refusals(store, keys)))
 
 
 # What a process stored last ------------------------------------------------------------------------------------------
@@ -214,12 +251,14 @@ def read_refusals(store: Database, keys: Sequence[Key]) -> Iterable[list[Row]]:
 
 @dataclass(slots=True)
 class Kept:
-    """The lines of a transaction, and the rows of its periods and findings by the first of their columns."""
+    """The lines of a transaction, and the rows of its periods and findings by the first of their columns. `changed`:
+    when its row was changed, as CHANGED has it."""
 
     lines: list[Line] = field(default_factory=list)
     parts: dict[Any, tuple[Any, ...]] = field(default_factory=dict)
     findings: dict[Any, tuple[Any, ...]] = field(default_factory=dict)
-    changed_at: datetime | None = None
+    site: str = ""
+    changed: int | str | None = None
     size: int = 0
 
 
@@ -232,12 +271,12 @@ class Warm:
         self.most, self.size = most, 0
         self.kept = OrderedDict[Key, Kept]()
 
-    def find(self, key: Key, lines: int, changed_at: datetime | None) -> Kept | None:
+    def find(self, key: Key, lines: int, changed: int | str | None) -> Kept | None:
         """What is kept of a transaction, where that is what is stored."""
         kept = self.kept.get(key)
         if kept is None:
             return None
-        if changed_at is None or (len(kept.lines), kept.changed_at) != (lines, changed_at):
+        if changed is None or (len(kept.lines), kept.changed) != (lines, changed):
             self.drop(key)
             return None
         self.kept.move_to_end(key)
@@ -261,6 +300,11 @@ class Warm:
 # Writing -------------------------------------------------------------------------------------------------------------
 
 
+def write_changed(store: Database, at: datetime) -> int | str:
+    """A moment of change as CHANGED has it."""
+    return (at - EPOCH) // MICROSECOND if store.kind == "postgresql" else write_moment(at)
+
+
 class Writer:
     """Collects what changed of transactions, and writes it, each table by one statement in PostgreSQL."""
 
@@ -268,6 +312,7 @@ class Writer:
         """`keeps`: what is written is kept, too."""
         self.store, self.keeps = store, keeps
         self.at = datetime.now(timezone.utc)
+        self.changed = write_changed(store, self.at)
         self.lines: list[tuple[Any, ...]] = []
         self.sessions: list[dict[str, Any]] = []
         self.rows: dict[Key, tuple[Held, list[dict[str, Any]], list[dict[str, Any]]]] = {}
@@ -296,7 +341,8 @@ class Writer:
                 [*held.lines, *accepted],
                 {one["starts"]: tuple(one.values()) for one in parts},
                 {one["kind"]: tuple(one.values()) for one in findings},
-                self.at,
+                held.site,
+                self.changed,
             )
         if len(self.sessions) >= WRITTEN_AT_ONCE:
             self.write()
