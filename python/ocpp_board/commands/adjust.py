@@ -1,4 +1,4 @@
-"""Declare a fact beside a session's proved number: a meter that was exchanged, an end by estimate, a credit.
+"""Declares a fact beside a session's proved number: a meter that was exchanged, an end by estimate, a credit.
 
     ocpp-board adjust --store ledger.db exchange CS-01 1 --at 2026-03-02T10:15:00Z --old-end 4711.5 --new-begin 0 \\
         --why "meter exchanged"

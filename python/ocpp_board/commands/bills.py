@@ -1,4 +1,4 @@
-"""Write a site's month of sessions as CSV, for billing, with what is doubtful beside each.
+"""Writes a site's month of sessions as CSV, for billing, with what is doubtful beside each.
 
     ocpp-board bills --store ledger.db --site north --month 2026-03 > north.csv
 

@@ -1,4 +1,4 @@
-"""List what closings changed of figures that an earlier closing had settled, for whoever has to settle again.
+"""Lists what closings changed of figures that an earlier closing had settled, for whoever has to settle again.
 
     ocpp-board corrections --store ledger.db --site north --since 2026-03-01 > corrections.csv
 

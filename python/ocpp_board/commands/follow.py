@@ -26,7 +26,7 @@ import time
 from collections.abc import Callable, Iterator, Sequence
 from dataclasses import dataclass, replace
 from datetime import datetime, timezone
-from functools import partial
+
 from pathlib import Path
 from types import FrameType
 from typing import Any
@@ -58,6 +58,7 @@ from ocpp_board.sources.script import is_number
 from ocpp_board.sources.stations import StorePlan, add_rules, add_utc, choose_plan, read_pairs
 from ocpp_board.statuses import Status
 from ocpp_board.store.database import Database, open_store
+from ocpp_board.store.lines import note_left_out
 from ocpp_board.store.plan import Author
 from ocpp_board.writers.tables import TableOptions
 
@@ -245,8 +246,8 @@ class FollowedLog:
             return
         if read.note:
             self.report(f"{self.path}: {read.note}")
-        if read.message:
-            records.append(replace(read.message, origin=f"{self.path}, byte {at}"))
+        for message in read.messages:
+            records.append(replace(message, origin=f"{self.path}, byte {at}"))
         if entry := self.reader.entry:
             moment = f" at {shown(entry.time)[1:-1]}" if entry.time else ""
             self.last = f"{shown(entry.station)[1:-1]}{moment}"
@@ -324,7 +325,7 @@ class Follow:
         self.logs = [
             FollowedLog(path, name, options, self.plan) for path, name in zip(options.logs, names)
         ]
-        self.renewer = Renewer(store, options.shown) if options.shown else None
+        self.renewer = Renewer(store, options.shown, options.processes) if options.shown else None
         self.lines: queue.Queue[bytes] = queue.Queue()
         self.is_ending = False
         self.is_caught_up = False
@@ -384,12 +385,16 @@ class Follow:
 
     def settle_log(self, one: FollowedLog, records: list[Asked], place: Place) -> None:
         """Settles what came of a log; what fails is tried again until it is done."""
+        left_out = one.reader.take_left_out()
+
+        def note(store: Database) -> None:
+            write_place(one.name, place, store)
+            note_left_out(store, left_out)
 
         def settle_once() -> None:
             self.loader.plan(self.find_new(records))
             pool = self.loader.pool if len(records) > MANY else None
-            also = partial(write_place, one.name, place)
-            answers = settle(self.store, records, pool, also=also)
+            answers = settle(self.store, records, pool, also=note)
             for record, answer in zip(records, answers):
                 self.loader.note(record.station, answer)
 

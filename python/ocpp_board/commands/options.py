@@ -107,8 +107,7 @@ def add_zones(parser: argparse.ArgumentParser) -> None:
         type=read_zone,
         action="append",
         default=[],
-        help="the time zone of a site's days and hours, or of all sites that are not named so, such as Europe/Berlin "
-        "(default: UTC)",
+        help="the time zone of SITE, or of every other site, such as Europe/Berlin (default: UTC)",
     )
 
 

@@ -182,7 +182,7 @@ class Report:
     """Takes logs and scripts into a store, and writes what is to be seen of it."""
 
     def __init__(self, options: Options, store: Database, settlers: Settlers | None) -> None:
-        self.options, self.store, self.settlers = options, store, settlers
+        self.options, self.store = options, store
         author = Author("report", f"read from {', '.join(options.logs)}"[:200])
         self.loader = Loader(store, options.wanted, author, settlers=settlers)
         self.lines, self.untaken = 0, 0
@@ -192,10 +192,11 @@ class Report:
         options = self.options
         asked = ReadOptions(options.shape, options.wanted.plan, options.is_utc, options.is_script)
         reader = BatchReader(asked, options.logs, self.loader.site_of)
-        for batch in run_ahead(reader.read, is_apart=self.settlers is not None):
+        for batch in reader.read():
             self.lines += batch.lines
             self.untaken += batch.untaken
             self.loader.plan(batch.site_of, batch.rules)
+            self.loader.note_left_out(batch.left_out)
             if batch.records:
                 self.loader.submit(batch.records)
         self.loader.finish()
@@ -317,8 +318,7 @@ def write_pages(options: Options, store: Database) -> int:
         last=options.tables.last,
         workers=options.processes,
     )
-    pages.write_pages(store, options.out, asked)
-    return sum(1 for _ in options.out.rglob("*.html"))
+    return pages.write_pages(store, options.out, asked)
 
 
 def find_until(store: Database) -> datetime | None:

@@ -21,6 +21,7 @@ from ocpp_board.gateway.lanes import Lanes
 from ocpp_board.gateway.lookouts import Clerk, Gatherer, Lookout, Served
 from ocpp_board.gateway.metrics import Repeated, serve_figures
 from ocpp_board.gateway.pace import Pace
+from ocpp_board.gateway.settler import KEEP_REFUSED
 from ocpp_board.passwords import Password
 from ocpp_board.gateway.station_socket import (
     HANDSHAKE,
@@ -36,7 +37,7 @@ from ocpp_board.store.stations import Change
 
 log = logging.getLogger(__name__)
 
-PROTOCOL = Subprotocol("ocpp2.0.1")
+PROTOCOL, PILOT = Subprotocol("ocpp2.0.1"), Subprotocol("ocpp2.1")
 # Bytes of a message: a longer one ends its connection with close code 1009.
 LONGEST = 524_288
 # Messages of one connection that are read before the first of them has its reply; OCPP has one.
@@ -66,8 +67,14 @@ class Options:
     lanes: int = 2
     # Whether each station of the plan is let in without a password.
     open: bool = False
+    # Whether a message that conflicts or is above a limit has the answer of an accepted one, once it is on disk.
+    keep_refused: bool = False
+    # Whether stations may speak OCPP 2.1.
+    pilot: bool = False
     proxy: list[str] = field(default_factory=list)
     metrics: tuple[str, int] | None = None
+    # Hours after which a session that lacks messages is silent.
+    silent: int = 24
 
 
 class Gateway:
@@ -76,7 +83,10 @@ class Gateway:
     def __init__(self, options: Options, files: Files) -> None:
         self.options = options
         self.name = f"{os.uname().nodename}-{os.getpid()}-{secrets.token_hex(4)}"
-        self.lanes = Lanes([options.store], options.lanes, options.patience)
+        words = [options.store, *([KEEP_REFUSED] if options.keep_refused else [])]
+        self.lanes = Lanes(words, options.lanes, options.patience)
+        # The subprotocols that are offered, the best first.
+        self.protocols = [PROTOCOL, *([PILOT] if options.pilot else [])]
         self.clerk = Clerk(options.store)
         self.finder = Gatherer(self.clerk, stations.find_stations)
         self.seen = Gatherer(self.clerk, stations.note_seen)
@@ -93,7 +103,7 @@ class Gateway:
         self.counts = Counter[str]()
         self.repeated = Repeated()
         # Messages of stations that no site has, and seconds since the last closing of sites.
-        self.strays, self.closing_ages = 0, dict[str, float]()
+        self.figures = stations.StoreFigures()
         self.jobs: set[asyncio.Task[Any]] = set()
         self.is_ending = asyncio.Event()
         # When the event loop ran last.
@@ -105,7 +115,7 @@ class Gateway:
         """Serves a station that was let in, until its connection ends."""
         socket = protocol
         assert isinstance(socket, StationSocket)
-        if socket.subprotocol != PROTOCOL:
+        if socket.subprotocol not in self.protocols:
             return await socket.close(PROTOCOL_ERROR, f"the subprotocol {PROTOCOL} is not offered")
         if older := self.served.get(socket.name):
             self.replace(older)
@@ -220,7 +230,7 @@ class Gateway:
         """Reads what the store says of itself, for who watches."""
         while self.options.metrics:
             try:
-                self.strays, self.closing_ages = await self.clerk.run(stations.read_figures)
+                self.figures = await self.clerk.run(stations.read_figures, self.options.silent)
             except StoreError as fault:
                 log.debug("%s", fault)
             await asyncio.sleep(FIGURES)
@@ -255,7 +265,7 @@ class Gateway:
                 self.options.host,
                 self.options.port,
                 create_protocol=make_socket(self),
-                subprotocols=[PROTOCOL],
+                subprotocols=self.protocols,
                 compression=None,
                 logger=SILENT,
                 server_header=None,

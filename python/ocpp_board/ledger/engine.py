@@ -14,9 +14,12 @@ from functools import partial
 from operator import attrgetter
 from typing import Any, NamedTuple, Protocol
 
+from ocpp_board.errors import InputError
 from ocpp_board.ledger.answers import Wish
+from ocpp_board.ledger.course import Course
 from ocpp_board.ledger.program import find_program
 from ocpp_board.ledger.quotas import (
+    FLOODS,
     TOO_MANY_STRAYS,
     Asking,
     find_refused,
@@ -38,26 +41,32 @@ from ocpp_board.ledger.refusals import (
     name_cause,
     read_levels,
 )
-from ocpp_board.ledger.rows import DELIVER, Done, Work, list_accepted, work_out
+from ocpp_board.ledger.rows import Done, Work, list_accepted, work_out
 from ocpp_board.limits import FIRST_MOMENT
-from ocpp_board.messages.texts import one_line
+from ocpp_board.messages.texts import is_unanswered, one_line
 from ocpp_board.messages.times import SECOND
-from ocpp_board.records import Answer, Asked, Deed, Line, Message, Rules, Untaken
+from ocpp_board.records import DELIVER, Answer, Asked, Deed, Line, Message, Rules, Untaken
 from ocpp_board.store import lines as store_lines
 from ocpp_board.store.database import Database, Row, choose
-from ocpp_board.store.lines import Held, Kept, Key, Warm, Writer
+from ocpp_board.store.lines import Held, Kept, Key, Warm, Writer, Written
 from ocpp_board.store.plan import (
     RULES_COLUMNS,
     Author,
     Planned,
     find_planned,
+    own_rules,
     read_rules,
     share_sites,
+    write_power,
     write_site,
 )
 
 # An origin that is a place in a file, such as `csms.log:17`.
 PLACE = re.compile(r"(?!.*://).*:[0-9]+")
+# The word of an operator who chooses the order of a transaction's readings.
+ORDER = "order"
+# What became of texts that were refused and taken after all.
+TAKEN, MENDED = "taken", "mended"
 # Texts that a process of a pool is asked at once, and the size of the works that it gets at once.
 TEXTS_AT_ONCE, BYTES_AT_ONCE = 2_000, 1_048_576
 # Transactions that are computed again at once where rules change.
@@ -70,6 +79,14 @@ class Pool(Protocol):
 
     def imap(self, function: Any, pieces: Iterable[Any], /) -> Iterator[Any]:
         """What the function makes of each piece, in their order."""
+
+
+class Decided(NamedTuple):
+    """A text that waited for a decision, by its digest, and what became of it."""
+
+    station: str
+    digest: str
+    decision: str
 
 
 @dataclass(slots=True)
@@ -88,6 +105,8 @@ class Batch:
     others: list[Message] = field(default_factory=list)
     # Messages that were mended, each with what it asks for.
     mended: list[tuple[Message, Wish]] = field(default_factory=list)
+    # Texts that waited for a decision and were taken after all, and what became of them.
+    decided: list[Decided] = field(default_factory=list)
 
 
 # What will become of transactions: their works, and what is done of them.
@@ -194,6 +213,9 @@ def sort_message(batch: Batch, place: int, one: Message, wish: Wish) -> None:
     if wish.outcome == "silent":
         batch.answers[place] = Answer("silent")
         return
+    if is_unanswered(one.text):
+        batch.answers[place] = Answer("silent")
+        return
     cause = wish.text if wish.outcome == "fault" else name_cause(wish.text)
     if not cause:
         batch.answers[place] = Answer("reply", "", wish.text)
@@ -246,15 +268,18 @@ def write_batch(
     deeds = find_done(store, batch)
     batch.answers |= deeds
     works = make_works(store, batch, held, deeds, planned)
-    writer = Writer(store, warm is not None)
+    writer, kept = Writer(store), dict[Key, Kept]()
     for key, work, done in work_on(works, pool, foreseen):
-        take_answers(writer, batch, work, done, held[key], deeds)
+        take_answers(store, batch, work, done, held[key], deeds)
+        if now := write_rows(writer, work, held[key], done):
+            kept[key] = now
     writer.write()
     write_refusals(store, batch)
+    write_decided(store, batch)
     write_strays(store, batch)
     write_mended(store, batch)
     write_levels(store, batch, sites)
-    return writer.kept
+    return kept
 
 
 def make_works(
@@ -271,8 +296,20 @@ def make_works(
     works = dict[Key, Work]()
     for key, one in held.items():
         new = list_new(batch, batch.sessions[key], deeds)
-        works[key] = Work(*key, one.site, rules[one.site], one.lines, new, list_conflicts(key, one))
+        own = own_rules(rules[one.site], one.own_order, planned.powers.get(key[0]))
+        course: Course | None = one.kept.course if one.kept else None
+        if course is not None and course.rules != own:
+            # All rows were computed again meanwhile.
+            course, held[key] = None, one._replace(kept=None)
+        conflicts = list_conflicts(key, one)
+        works[key] = Work(*key, one.site, own, one.lines, new, conflicts, course=course)
     return works
+
+
+def find_powers(store: Database, keys: Iterable[Key]) -> dict[str, int]:
+    """The powers of those of the stations of transactions that have one of their own."""
+    rows = store_lines.find_stations(store, sorted({key[0] for key in keys}))
+    return {station: row.most_kw for station, row in rows.items() if row.most_kw}
 
 
 def foresee(store: Database, batch: Batch) -> Foreseen:
@@ -330,6 +367,9 @@ def refuse_strays(store: Database, batch: Batch) -> None:
 
 def refuse_by_quotas(store: Database, batch: Batch, planned: Planned) -> None:
     """Answers messages that are above a quota of their site, which change nothing."""
+    sites, quotas = planned.sites, {site: one for site, one in planned.quotas.items() if any(one)}
+    if not quotas:
+        return
     asking = [
         Asking(place, one, key)
         for key, places in batch.sessions.items()
@@ -340,10 +380,10 @@ def refuse_by_quotas(store: Database, batch: Batch, planned: Planned) -> None:
     asking += [
         Asking(place, one, None)
         for place, one in enumerate(batch.asked)
-        if id(one) in values and isinstance(one, Message) and one.station in planned.sites
+        if id(one) in values and isinstance(one, Message) and one.station in sites
     ]
     asking.sort(key=attrgetter("place"))
-    for place, name in find_refused(store, asking, planned).items():
+    for place, name in find_refused(store, asking, sites, quotas).items():
         one = batch.asked[place]
         assert isinstance(one, Message)
         key = (one.station, batch.wishes[place].text)
@@ -465,23 +505,31 @@ def work_piece(works: list[Work]) -> list[Done]:
 
 
 def take_answers(
-    writer: Writer, batch: Batch, work: Work, done: Done, held: Held, deeds: dict[int, Answer]
+    store: Database, batch: Batch, work: Work, done: Done, held: Held, deeds: dict[int, Answer]
 ) -> None:
-    """Notes the answers to a transaction's lines, and has its lines and rows written."""
-    key, store, taken = (work.station, work.transaction), writer.store, set[int]()
-    places = [place for place in batch.sessions[key] if place not in deeds]
-    for place, (outcome, name, reply, change) in zip(places, done.answers):
-        batch.answers[place] = Answer(outcome, name, reply, key[1], change)
+    """Notes the answers to a transaction's lines."""
+    key, taken = (work.station, work.transaction), set[int]()
+    waiting = {row.digest for row in held.refusals}
+    places = batch.sessions[key]
+    if deeds:
+        places = [place for place in places if place not in deeds]
+    for place, answer in zip(places, done.answers):
+        batch.answers[place] = answer
         one = batch.asked[place]
-        if isinstance(one, Message):
-            if outcome in ("accepted", "repeat"):
-                taken.add(batch.wishes[place].number)
-            elif outcome in ("refused", "fault"):
-                refusal = describe_message(one.text, name, one.received)
-                batch.refusals.append((one, refusal, key[1]))
-        elif isinstance(one, Deed):
-            write_deed(store, one, batch.answers[place])
-    write_rows(writer, work, held, done)
+        if isinstance(one, Deed):
+            write_deed(store, one, answer)
+        elif not isinstance(one, Message):
+            continue
+        elif answer.outcome in ("accepted", "repeat"):
+            taken.add(batch.wishes[place].number)
+            if one.came:
+                digest = digest_text(keep_text(one.came))
+                batch.decided.append(Decided(one.station, digest, MENDED))
+            elif waiting and (digest := digest_text(keep_text(one.text))) in waiting:
+                batch.decided.append(Decided(one.station, digest, TAKEN))
+        elif answer.outcome in ("refused", "fault"):
+            refusal = describe_message(one.text, answer.name, one.received)
+            batch.refusals.append((one, refusal, key[1]))
     untaken = [row for row in held.refusals if row.cause == UNTAKEN and row.number in taken]
     if untaken:
         store.execute_each(
@@ -490,20 +538,18 @@ def take_answers(
         )
 
 
-def write_rows(writer: Writer, work: Work, held: Held, done: Done) -> None:
-    """Has the accepted lines of a transaction and its rows written."""
+def write_rows(writer: Writer, work: Work, held: Held, done: Done) -> Kept | None:
+    """Has the accepted lines of a transaction and its rows written, and gives what is to be kept of it."""
     key = work.station, work.transaction
     if done.rows is None:
         if not held.lines:
             writer.drop_empty(key)
-        return
-    parts = [one._asdict() for one in done.rows.parts]
-    findings = [
-        {"kind": one.kind.label, "times": one.times, "first_at": one.first, "detail": one.detail}
-        for one in done.rows.findings
-    ]
-    session = done.rows.session._asdict()
-    writer.add(key, held, list_accepted(work, done.answers), session, parts, findings)
+        return held.kept
+    findings = [(one.kind.label, one.times, one.first, one.detail) for one in done.rows.findings]
+    accepted = list_accepted(work, done.answers)
+    return writer.add(
+        key, Written(held, accepted, done.rows.session, done.rows.parts, findings, done.course)
+    )
 
 
 def write_deed(store: Database, one: Deed, answer: Answer) -> None:
@@ -529,7 +575,7 @@ def write_refusals(store: Database, batch: Batch) -> None:
     kept, rows = dict[tuple[str, str], set[str]](), list[dict[str, Any]]()
     for one, refusal, transaction in batch.refusals:
         kind = one.station, refusal.cause
-        if kind not in kept:
+        if refusal.cause in FLOODS and kind not in kept:
             kept[kind] = store_lines.find_digests(store, *kind)
         row = {
             "station": one.station,
@@ -546,13 +592,24 @@ def write_refusals(store: Database, batch: Batch) -> None:
             "origins": name_place(one.origin),
             "at": refusal.at,
         }
-        if len(kept[kind]) >= store_lines.MOST_TEXTS and refusal.digest not in kept[kind]:
+        own = kept.get(kind, set())
+        if len(own) >= store_lines.MOST_TEXTS and refusal.digest not in own:
             row |= {"digest": store_lines.MANY, "transaction": "", "number": None, "sent_id": ""}
             row |= {"sent_number": "", "what": store_lines.ONE_OF_MANY}
-        kept[kind].add(str(row["digest"]))
+        own.add(str(row["digest"]))
         rows.append(row)
     if rows:
         store.execute_each(choose(store_lines.ADD_REFUSAL, store.kind), rows)
+
+
+def write_decided(store: Database, batch: Batch) -> None:
+    """Notes that texts which waited for a decision were taken."""
+    now = datetime.now(timezone.utc)
+    if batch.decided:
+        store.execute_each(
+            store_lines.DECIDE,
+            [one._asdict() | {"at": now, "who": "", "why": ""} for one in batch.decided],
+        )
 
 
 def digest_stray(text: str) -> str:
@@ -628,6 +685,21 @@ def change_site(
         return compute_again(store, site, rules)
 
 
+def change_power(
+    store: Database, station: str, most_kw: int, author: Author, where: str = "plan"
+) -> None:
+    """Says the greatest power of a station's EVSEs in kW, and computes the rows of its transactions again. Raises
+    InputError."""
+    with store.transaction():
+        if write_power(store, station, most_kw, author, where):
+            rows = store.fetch(
+                "select transaction_id, site from session where station = :station", station=station
+            )
+            sites = {(station, row.transaction_id): row.site for row in rows}
+            for start in range(0, len(rows), SESSIONS_AT_ONCE):
+                renew_sessions(store, dict([*sites.items()][start : start + SESSIONS_AT_ONCE]))
+
+
 def compute_again(store: Database, site: str, rules: Rules) -> int:
     """Computes the rows of a site's transactions by these rules, within a database transaction that holds its plan."""
     count, after = 0, ("", "")
@@ -640,21 +712,52 @@ def compute_again(store: Database, site: str, rules: Rules) -> int:
         if not rows:
             return count
         keys = [(row.station, row.transaction_id) for row in rows]
-        held = store_lines.hold_sessions(store, dict.fromkeys(keys, site))
-        no_lines = list[Line]()
-        works = {
-            key: Work(
-                *(*key, site, rules, one.lines, no_lines),
-                list_conflicts(key, one),
-                True,
-            )
-            for key, one in held.items()
-        }
-        writer = Writer(store)
-        for key, work, done in work_on(works, None):
-            write_rows(writer, work, held[key], done)
-        writer.write()
+        renew_sessions(store, dict.fromkeys(keys, site), {site: rules})
         count, after = count + len(keys), keys[-1]
+
+
+def renew_sessions(
+    store: Database, sites: dict[Key, str], rules: dict[str, Rules] | None = None
+) -> None:
+    """Computes the rows of transactions again, within a database transaction. `sites`: those of the transactions."""
+    rules = rules or find_all_rules(store, set(sites.values()))
+    held = store_lines.hold_sessions(store, sites)
+    powers = find_powers(store, held)
+    works = {}
+    for key, one in held.items():
+        own = own_rules(rules[one.site], one.own_order, powers.get(key[0]))
+        works[key] = Work(*key, one.site, own, one.lines, [], list_conflicts(key, one), True)
+    writer = Writer(store)
+    for key, work, done in work_on(works, None):
+        write_rows(writer, work, held[key], done)
+    writer.write()
+
+
+def order_session(
+    store: Database, station: str, transaction: str, order: str, author: Author
+) -> None:
+    """Has a transaction's readings taken in an order of its own, and computes its rows again. Raises InputError where
+    there is no such transaction."""
+    key = station, transaction.lower()
+    with store.transaction():
+        row = store.fetch_one(
+            "select site from session where station = :station and transaction_id = :transaction",
+            station=station,
+            transaction=key[1],
+        )
+        if row is None:
+            raise InputError(f"the store has no transaction {transaction!r} of station {station!r}")
+        share_sites(store, [], [row.site])
+        store.execute(
+            "update session set own_order = :order where station = :station and transaction_id = :transaction",
+            order=order,
+            station=station,
+            transaction=key[1],
+        )
+        renew_sessions(store, {key: row.site})
+        now = datetime.now(timezone.utc)
+        deed = Deed(ORDER, *key, 0, author.who, author.why, now, f"operator {author.who}")
+        write_deed(store, deed, Answer(f"by {order}", "", None, key[1]))
 
 
 def take_strays(

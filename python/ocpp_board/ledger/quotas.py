@@ -5,17 +5,18 @@ may keep is in the site's rules; messages a second are counted by the gateway th
 """
 
 import json
-from collections.abc import Sequence
+from collections.abc import Mapping, Sequence
 from datetime import datetime, timezone
 from typing import NamedTuple
 
-from ocpp_board.records import Message
+from ocpp_board.records import Message, Quota
 from ocpp_board.store.database import Database
 from ocpp_board.store.lines import Key
-from ocpp_board.store.plan import Planned
 
 TOO_MANY_OPEN, TOO_MANY_BYTES = "TooManyOpen", "TooManyBytes"
 TOO_MANY_MESSAGES, TOO_MANY_STRAYS = "TooManyMessages", "TooManyStrays"
+# What a station sends too much of: of its refused texts some are kept each.
+FLOODS = frozenset((TOO_MANY_BYTES, TOO_MANY_MESSAGES, TOO_MANY_STRAYS))
 # Texts that are kept of a station that no site has.
 MOST_STRAYS = 50_000
 
@@ -28,17 +29,20 @@ class Asking(NamedTuple):
     key: Key | None
 
 
-def find_refused(store: Database, asking: Sequence[Asking], planned: Planned) -> dict[int, str]:
+def find_refused(
+    store: Database,
+    asking: Sequence[Asking],
+    sites: Mapping[str, str],
+    quotas: Mapping[str, Quota],
+) -> dict[int, str]:
     """The places of messages that are above a quota, each with the quota's name; what the others have is counted. The
     database transaction holds the sites of these stations."""
-    limited = {site for site, quota in planned.quotas.items() if any(quota)}
-    if not limited:
-        return {}
-    refused, sites = dict[int, str](), planned.sites
-    stations = {one.message.station for one in asking if sites[one.message.station] in limited}
+    refused = dict[int, str]()
+    stations = {one.message.station for one in asking if sites[one.message.station] in quotas}
     for station in sorted(stations):
-        quota = planned.quotas[sites[station]]
-        own = [one for one in asking if one.message.station == station]
+        quota, own = quotas[sites[station]], [
+            one for one in asking if one.message.station == station
+        ]
         if quota.open:
             refused |= refuse_open(store, station, quota.open, own)
         if quota.bytes:

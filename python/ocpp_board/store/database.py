@@ -207,7 +207,6 @@ class SqliteDatabase(Database):
             self.connection.execute("pragma temp_store = memory")
         except sqlite3.Error as fault:
             raise StoreError(f"{path} can't be opened as a store: {fault}") from None
-        self.connection.row_factory = make_row
         self.path = path
 
     @report_faults
@@ -221,24 +220,23 @@ class SqliteDatabase(Database):
         self.connection.executemany(statement, values)
 
     @report_faults
-    @report_faults
-    def insert_rows(self, statement: str, rows: Iterable[tuple[Any, ...]]) -> None:
+    def execute_rows(self, statement: str, rows: Iterable[tuple[Any, ...]]) -> None:
         """Runs a statement for each of these rows, by the places of its marks `?`."""
         self.connection.executemany(statement, rows)
 
     @report_faults
     def fetch(self, statement: str, **values: Any) -> list[Row]:
         """The rows of a statement."""
-        return self.connection.execute(statement, values).fetchall()
+        return list(read_rows(self.connection.execute(statement, values)))
 
     def fetch_each(self, statement: str, values: Iterable[Values]) -> Iterator[list[Row]]:
         """The rows of a statement for each of these values."""
         for one in values:
-            yield self.connection.execute(statement, one).fetchall()
+            yield list(read_rows(self.connection.execute(statement, one)))
 
     def stream(self, statement: str, **values: Any) -> Iterator[Row]:
         """The rows of a statement one by one."""
-        yield from self.connection.execute(statement, values)
+        yield from read_rows(self.connection.execute(statement, values))
 
     @contextmanager
     def transaction(self) -> Iterator[None]:
@@ -276,10 +274,8 @@ adapt_values()
 
 
 @lru_cache(1_024)
-def find_readers(
-    columns: tuple[str, ...]
-) -> tuple[Any, tuple[tuple[int, Callable[[Any], Any]], ...]]:
-    """The class of a statement's rows, and what reads the values of which columns."""
+def find_maker(columns: tuple[str, ...]) -> Callable[[tuple[Any, ...]], Row]:
+    """What makes a statement's rows of SQLite's values: moments, days and flags as Python has them."""
     readers: list[tuple[int, Callable[[Any], Any]]] = []
     for place, name in enumerate(columns):
         if is_moment(name):
@@ -288,19 +284,27 @@ def find_readers(
             readers.append((place, date.fromisoformat))
         elif name in FLAGS:
             readers.append((place, bool))
-    return namedtuple("Row", columns, rename=True), tuple(readers)
-
-
-def make_row(cursor: sqlite3.Cursor, values: tuple[Any, ...]) -> Row:
-    """A row of SQLite, its moments, days and flags as Python has them."""
-    row, readers = find_readers(tuple(one[0] for one in cursor.description))
+    name_columns: Any = namedtuple
+    make: Callable[[Iterable[Any]], Row] = name_columns("Row", columns, rename=True)._make
     if not readers:
-        return row._make(values)
-    found = list(values)
-    for place, read in readers:
-        if found[place] is not None:
-            found[place] = read(found[place])
-    return row._make(found)
+        return make
+
+    def read(values: tuple[Any, ...]) -> Row:
+        found = list(values)
+        for place, read_value in readers:
+            value = found[place]
+            if value is not None:
+                found[place] = read_value(value)
+        return make(found)
+
+    return read
+
+
+def read_rows(cursor: sqlite3.Cursor) -> Iterable[Row]:
+    """The rows of a statement that was run."""
+    if cursor.description is None:
+        return ()
+    return map(find_maker(tuple([one[0] for one in cursor.description])), cursor)
 
 
 class PostgresDatabase(Database):

@@ -56,6 +56,11 @@ left join rule_settled r on r.station = s.station and r.transaction_id = s.trans
 where s.site = :site and s.events > 0 and not s.complete and s.last_at < :before and r.station is null
 order by s.last_at, s.station, s.transaction_id
 """
+BY_RULE = """
+select s.station, s.transaction_id, s.state, s.up - s.down as imported, r.at, r.who, r.why
+from rule_settled r join session s on s.station = r.station and s.transaction_id = r.transaction_id
+where r.site = :site order by r.at, r.station, r.transaction_id
+"""
 SETTLE_BY_RULE = """
 insert into rule_settled (station, transaction_id, site, at, who, why)
 values (:station, :transaction_id, :site, :at, :who, :why) on conflict (station, transaction_id) do nothing
@@ -187,6 +192,11 @@ def release(store: Database, station: str, transaction: str, author: Author) -> 
 def list_open(store: Database, site: str, before: datetime) -> list[Row]:
     """The sessions that are not complete, of which nothing is later than a moment, and that nobody settled by rule."""
     return store.fetch(OPEN, site=site, before=before)
+
+
+def list_by_rule(store: Database, site: str) -> list[Row]:
+    """The sessions of a site that somebody settled by rule."""
+    return store.fetch(BY_RULE, site=site)
 
 
 def settle_by_rule(store: Database, site: str, before: datetime, author: Author) -> list[Row]:

@@ -197,11 +197,34 @@ def write_quota(
     return after
 
 
-def read_figures(store: Database) -> tuple[int, dict[str, float]]:
-    """For who watches: how many messages are of stations that no site has, and seconds since each site's last closing,
-    of those that were closed once."""
+class StoreFigures(NamedTuple):
+    """What a store says for who watches: how many messages are of stations that no site has, seconds since each site's
+    last closing, of those that were closed once, and by site how many sessions that lack messages are silent, and how
+    many refused texts wait for a decision."""
+
+    strays: int = 0
+    closing_ages: Mapping[str, float] = {}
+    silent: Mapping[str, int] = {}
+    waiting: Mapping[str, int] = {}
+
+
+def read_figures(store: Database, hours: float) -> StoreFigures:
+    """The figures of a store. `hours`: for how long nothing came of sessions that are silent."""
     (row,) = store.fetch("select count(*) as n from stray")
     if not store.has_table("closing"):
-        return row.n, {}
-    rows = store.fetch("select site, max(at) as closed_at from closing group by site")
-    return row.n, {one.site: (now() - one.closed_at).total_seconds() for one in rows}
+        return StoreFigures(row.n)
+    closings = store.fetch("select site, max(at) as closed_at from closing group by site")
+    silent = store.fetch(
+        "select site, count(*) as n from lacking where heard_at < :before group by site",
+        before=now() - timedelta(hours=hours),
+    )
+    waiting = store.fetch(
+        """select t.site, count(*) as n from refusal r join station t on t.station = r.station
+        where r.decision = '' group by t.site"""
+    )
+    return StoreFigures(
+        row.n,
+        {one.site: (now() - one.closed_at).total_seconds() for one in closings},
+        {one.site: one.n for one in silent},
+        {one.site: one.n for one in waiting},
+    )

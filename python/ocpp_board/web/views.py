@@ -16,7 +16,8 @@ from ocpp_board.web.desk import (
     read_fields,
 )
 from ocpp_board.web.signing import OPERATOR, READER, SignInFault
-from ocpp_board.writers.pages.context import Context, DayBook, PageOptions
+from ocpp_board.writers.pages.context import Context, PageOptions
+from ocpp_board.writers.pages.day_book import DayBook
 from ocpp_board.writers.pages.day_pages import make_day_page, make_station_day_page
 from ocpp_board.writers.pages.facts import Site, StationSummary
 from ocpp_board.writers.pages.links import WebLinks

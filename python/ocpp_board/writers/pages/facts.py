@@ -1,5 +1,6 @@
 """What pages show, as the views of the store have it."""
 
+from collections.abc import Sequence
 from datetime import datetime
 from typing import NamedTuple
 
@@ -137,6 +138,14 @@ class RefusedText(NamedTuple):
     times: int
     first_at: datetime | None
     last_at: datetime | None
+
+
+class SessionRecord(NamedTuple):
+    """What the page of a transaction has beside its figures: its lines, what was refused of it, what operators did."""
+
+    lines: Sequence[SessionLine]
+    refused: Sequence[RefusedText]
+    deeds: Sequence[AnsweredDeed]
 
 
 class Lack(NamedTuple):

@@ -1,7 +1,6 @@
 """Where pages are: files beside each other, or addresses of a server."""
 
 from datetime import date
-from pathlib import PurePosixPath
 from typing import Protocol
 from urllib.parse import quote
 
@@ -82,7 +81,7 @@ class FileLinks:
 
     def __init__(self, path: str) -> None:
         """`path`: that of the page with the links."""
-        self.up, self.paths = "../" * (len(PurePosixPath(path).parts) - 1), FilePaths()
+        self.up, self.paths = "../" * path.count("/"), FilePaths()
 
     def lead(self, path: str) -> str:
         """Leads to a file."""

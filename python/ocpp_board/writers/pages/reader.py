@@ -1,8 +1,11 @@
 """What pages read of the store: rows of its views, by site, station, transaction and day."""
 
 import json
-from collections.abc import Sequence
+from collections import deque
+from collections.abc import Iterator, Sequence
 from datetime import datetime, timedelta, timezone
+from itertools import chain, groupby
+from operator import itemgetter
 from string import ascii_lowercase
 from typing import Any
 
@@ -16,6 +19,7 @@ from ocpp_board.writers.pages.facts import (
     RefusedText,
     SessionFacts,
     SessionLine,
+    SessionRecord,
     Site,
     Totals,
 )
@@ -34,6 +38,9 @@ SESSION = (
 )
 REFUSED = "station, transaction_id, sent_number, cause, what, advice, times, first_at, last_at"
 DEED = "station, transaction_id, number, word, who, why, at, outcome, name"
+LINE, LINE_COLUMNS = "number, received, line, who, why, origin", 6
+# Lines and refusals of a transaction that are read.
+MOST_LINES, MOST_REFUSED = 600, 200
 
 Row = Sequence[Any]
 
@@ -227,6 +234,12 @@ class Reader:
             found += [rows[0][0]] if rows[0][0] is not None else []
         return max(found, default=None)
 
+    def station_moments(self, site: str, station: str) -> Iterator[datetime]:
+        """The moments at which the sessions of a station began and ended."""
+        sql = "select first_at, last_at from session where site = :site and station = :station"
+        rows = self.store.fetch(sql, site=site, station=station)
+        return (at for row in rows for at in row if at)
+
     def last_moment(self, site: str, station: str | None = None) -> datetime | None:
         """The last moment of the sessions of a site or of a station."""
         rows = self.read_of(
@@ -251,7 +264,8 @@ class Reader:
             "and last_at < :latest and first_at < :end"
         )
         values = {"begin": begin, "end": end, "latest": end + LONGEST}
-        rows = self.read_of(sql, site, station, " order by first_at, station", **values)
+        end_of = " order by first_at, station, transaction_id"
+        rows = self.read_of(sql, site, station, end_of, **values)
         return [make_session(row) for row in rows]
 
     def station_sessions(self, site: str, station: str) -> list[SessionFacts]:
@@ -268,14 +282,53 @@ class Reader:
     def lines(self, station: str, transaction_id: str, last: int) -> list[SessionLine]:
         """The last so many lines of a transaction, in their order."""
         sql = (
-            "select number, received, line, who, why, origin from line where station = :station "
+            f"select {LINE} from line where station = :station "
             "and transaction_id = :tx order by number desc limit :last"
         )
         rows = self.store.fetch(sql, station=station, tx=transaction_id, last=last)
-        return [
-            SessionLine(row[0], row[1], row[2], row[3] or "", row[4] or "", row[5] or "")
-            for row in reversed(rows)
-        ]
+        return [SessionLine(*row) for row in reversed(rows)]
+
+    def station_lines(self, station: str, last: int) -> Iterator[tuple[str, list[SessionLine]]]:
+        """The transactions of a station that have lines, by their ids, each with its last so many lines in their
+        order."""
+        sql = f"select {LINE}, transaction_id from line where station = :station order by transaction_id, number"
+        rows = self.store.stream(sql, station=station)
+        for transaction_id, some in groupby(rows, itemgetter(LINE_COLUMNS)):
+            yield transaction_id, [SessionLine(*row[:LINE_COLUMNS]) for row in deque(some, last)]
+
+    def session_record(self, session: SessionFacts) -> SessionRecord:
+        """What the page of a transaction has beside its figures."""
+        return SessionRecord(
+            self.lines(session.station, session.transaction_id, MOST_LINES),
+            self.session_refused(session, MOST_REFUSED),
+            self.session_deeds(session),
+        )
+
+    def station_records(
+        self, site: str, station: str
+    ) -> Iterator[tuple[SessionFacts, SessionRecord]]:
+        """The transactions of a station with the same, read at once."""
+        sessions = {one.transaction_id: one for one in self.station_sessions(site, station)}
+        refused = self.list_transactions("refusal", station) | self.list_transactions(
+            "stray", station
+        )
+        deeds = self.list_transactions("deed", station)
+        nothing: list[SessionLine] = []
+        for tx, lines in chain(
+            self.station_lines(station, MOST_LINES), ((tx, nothing) for tx in [*sessions])
+        ):
+            session = sessions.pop(tx, None)
+            if session is not None:
+                yield session, SessionRecord(
+                    lines,
+                    self.session_refused(session, MOST_REFUSED) if tx in refused else [],
+                    self.session_deeds(session) if tx in deeds else [],
+                )
+
+    def list_transactions(self, table: str, station: str) -> set[str]:
+        """The transactions of a station that a table names."""
+        sql = f"select distinct transaction_id from {table} where station = :station"
+        return {row[0] for row in self.store.fetch(sql, station=station)}
 
     # Troubles ---------------------------------------------------------------------------------------------------------
 
@@ -393,7 +446,8 @@ class Reader:
 
 def make_period(row: Row, seconds: int) -> Period:
     """Makes a period of its start, its energies, and how they were come by."""
-    return Period(row[0], seconds, make_flow(row, 1), not row[5], bool(row[6]))
+    flow = Flow(row[1], row[2], row[3], row[4])
+    return Period(row[0], seconds, flow, not row[5], bool(row[6]))
 
 
 def make_found(row: Row) -> Found:
