@@ -10,7 +10,7 @@ from collections.abc import Callable, Collection, Iterable, Iterator, Sequence
 from contextlib import AbstractContextManager, nullcontext
 from dataclasses import dataclass, field
 from datetime import datetime, timezone
-from functools import partial
+from functools import lru_cache, partial
 from operator import attrgetter
 from typing import Any, NamedTuple, Protocol
 
@@ -71,6 +71,8 @@ TAKEN, MENDED = "taken", "mended"
 TEXTS_AT_ONCE, BYTES_AT_ONCE = 2_000, 1_048_576
 # Transactions that are computed again at once where rules change.
 SESSIONS_AT_ONCE = 2_000
+# Moments that have their nanoseconds kept, since many messages come at one.
+KEPT_MOMENTS = 1_024
 EPOCH = datetime(1970, 1, 1, tzinfo=timezone.utc)
 
 
@@ -176,6 +178,7 @@ def ask_piece(piece: tuple[list[str], list[int | None]]) -> list[Wish]:
     return find_program().ask(*piece)
 
 
+@lru_cache(KEPT_MOMENTS)
 def to_nanoseconds(at: datetime | None) -> int | None:
     """A moment in nanoseconds since 1970."""
     if at is None:
