@@ -14,6 +14,7 @@ import os
 import random
 import sys
 import time
+from asyncio import FIRST_COMPLETED
 from dataclasses import dataclass, field
 from typing import cast
 from urllib.parse import urlsplit
@@ -149,6 +150,7 @@ class Station(asyncio.Protocol):
         self.transport: asyncio.Transport | None = None
         self.buffer = bytearray()
         self.is_in = False
+        self.entered: asyncio.Future[None] = asyncio.get_running_loop().create_future()
         self.ended: asyncio.Future[None] = asyncio.get_running_loop().create_future()
 
     async def play(self) -> None:
@@ -159,7 +161,7 @@ class Station(asyncio.Protocol):
         while self.rest:
             url = urlsplit(plan.urls[self.turn % len(plan.urls)])
             self.turn += 1
-            self.ended = loop.create_future()
+            self.entered, self.ended = loop.create_future(), loop.create_future()
             self.buffer.clear()
             self.is_in = False
             try:
@@ -170,9 +172,9 @@ class Station(asyncio.Protocol):
                     login = make_login(self.name, plan.password)
                     head = HANDSHAKE.format(path=url.path, station=self.name, login=login)
                     self.transport.write(head.encode())
-                    async with asyncio.timeout(PATIENCE):
-                        while not self.is_in and not self.ended.done():
-                            await asyncio.sleep(0.005)
+                    await asyncio.wait(
+                        [self.entered, self.ended], timeout=PATIENCE, return_when=FIRST_COMPLETED
+                    )
                 await self.wait_for_end()
             except (OSError, TimeoutError):
                 if self.transport:
@@ -184,6 +186,8 @@ class Station(asyncio.Protocol):
         """Waits until the connection ends. One whose message has no reply for too long is ended."""
         while not self.ended.done():
             await asyncio.wait([self.ended], timeout=PATIENCE / 4)
+            if not self.is_in:
+                raise TimeoutError
             if self.sent and self.sent < time.monotonic() - PATIENCE and not self.ended.done():
                 self.load.seen.late += 1
                 raise TimeoutError
@@ -207,6 +211,7 @@ class Station(asyncio.Protocol):
                 return
             del self.buffer[: end + 4]
             self.is_in = True
+            self.entered.set_result(None)
             if not self.first:
                 self.load.note_here()
             self.begin()

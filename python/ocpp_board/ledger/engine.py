@@ -6,7 +6,7 @@ answer is given only after the commit. A failure gives none, and the same may co
 """
 
 import re
-from collections.abc import Callable, Iterable, Iterator, Sequence
+from collections.abc import Callable, Collection, Iterable, Iterator, Sequence
 from contextlib import AbstractContextManager, nullcontext
 from dataclasses import dataclass, field
 from datetime import datetime, timezone
@@ -22,7 +22,6 @@ from ocpp_board.ledger.quotas import (
     FLOODS,
     TOO_MANY_STRAYS,
     Asking,
-    find_quotas,
     find_refused,
     find_strays_above,
     write_reply,
@@ -53,9 +52,11 @@ from ocpp_board.store.lines import Held, Kept, Key, Warm, Writer, Written
 from ocpp_board.store.plan import (
     RULES_COLUMNS,
     Author,
-    lock_sites,
+    Planned,
+    find_planned,
     own_rules,
     read_rules,
+    share_sites,
     write_power,
     write_site,
 )
@@ -259,16 +260,17 @@ def write_batch(
     store: Database, batch: Batch, pool: Pool | None, warm: Warm | None, foreseen: Foreseen
 ) -> dict[Key, Kept]:
     """Writes what a batch changes, within a database transaction, and answers the rest of it."""
-    sites = hold_sites(store, batch)
+    planned = hold_sites(store, batch, warm)
+    sites = planned.sites
     leave_strays(batch, sites)
     refuse_strays(store, batch)
-    refuse_by_quotas(store, batch, sites)
+    refuse_by_quotas(store, batch, planned)
     held = store_lines.hold_sessions(
         store, {key: sites[key[0]] for key in batch.sessions if key[0] in sites}, warm
     )
     deeds = find_done(store, batch)
     batch.answers |= deeds
-    works = make_works(store, batch, held, deeds)
+    works = make_works(store, batch, held, deeds, planned)
     writer, kept = Writer(store), dict[Key, Kept]()
     for key, work, done in work_on(works, pool, foreseen):
         take_answers(store, batch, work, done, held[key], deeds)
@@ -284,15 +286,20 @@ def write_batch(
 
 
 def make_works(
-    store: Database, batch: Batch, held: dict[Key, Held], deeds: dict[int, Answer]
+    store: Database,
+    batch: Batch,
+    held: dict[Key, Held],
+    deeds: dict[int, Answer],
+    planned: Planned,
 ) -> dict[Key, Work]:
     """The works of transactions that are held."""
-    rules = find_all_rules(store, {one.site for one in held.values()})
-    powers = find_powers(store, held)
+    # A station that moved leaves the transactions that it began where they are.
+    others = {one.site for one in held.values()} - planned.rules.keys()
+    rules = planned.rules | find_all_rules(store, others)
     works = dict[Key, Work]()
     for key, one in held.items():
         new = list_new(batch, batch.sessions[key], deeds)
-        own = own_rules(rules[one.site], one.own_order, powers.get(key[0]))
+        own = own_rules(rules[one.site], one.own_order, planned.powers.get(key[0]))
         course: Course | None = one.kept.course if one.kept else None
         if course is not None and course.rules != own:
             # All rows were computed again meanwhile.
@@ -311,25 +318,26 @@ def find_powers(store: Database, keys: Iterable[Key]) -> dict[str, int]:
 def foresee(store: Database, batch: Batch) -> Foreseen:
     """What will become of a batch's transactions, if nobody changes them meanwhile."""
     with store.snapshot():
-        sites = store_lines.find_sites(store, sorted({key[0] for key in batch.sessions}))
+        planned = find_planned(store, sorted({key[0] for key in batch.sessions}))
+        sites = planned.sites
         known = {key: sites[key[0]] for key in batch.sessions if key[0] in sites}
-        works = make_works(
-            store, batch, store_lines.hold_sessions(store, known), find_done(store, batch)
-        )
+        held = store_lines.hold_sessions(store, known)
+        works = make_works(store, batch, held, find_done(store, batch), planned)
     return {key: (work, done) for key, work, done in work_on(works, None)}
 
 
-def hold_sites(store: Database, batch: Batch) -> dict[str, str]:
-    """The sites of the batch's stations; their plan does not change up to the end of the database transaction."""
+def hold_sites(store: Database, batch: Batch, warm: Warm | None) -> Planned:
+    """What the plan has of the batch's stations; it does not change up to the end of the database transaction."""
     stations = sorted({key[0] for key in batch.sessions} | {one.station for one in batch.others})
+    if store.kind != "postgresql":
+        return find_planned(store, stations)
+    # Transactions that a station began at another site have that one's rules.
+    others = store_lines.find_session_sites(store, list(batch.sessions), warm)
     while True:
-        sites = store_lines.find_sites(store, stations)
-        if store.kind != "postgresql":
-            return sites
-        known = store_lines.find_session_sites(store, list(batch.sessions))
-        lock_sites(store, [*sites.values(), *known.values()], False)
-        if store_lines.find_sites(store, stations) == sites:
-            return sites
+        shared = share_sites(store, stations, others)
+        planned = find_planned(store, stations)
+        if shared.issuperset(planned.sites.values()):
+            return planned
 
 
 def leave_strays(batch: Batch, sites: dict[str, str]) -> None:
@@ -360,9 +368,9 @@ def refuse_strays(store: Database, batch: Batch) -> None:
     batch.strays = [one for one, key in zip(batch.strays, texts) if key not in above]
 
 
-def refuse_by_quotas(store: Database, batch: Batch, sites: dict[str, str]) -> None:
+def refuse_by_quotas(store: Database, batch: Batch, planned: Planned) -> None:
     """Answers messages that are above a quota of their site, which change nothing."""
-    quotas = find_quotas(store, sorted(set(sites.values())))
+    sites, quotas = planned.sites, {site: one for site, one in planned.quotas.items() if any(one)}
     if not quotas:
         return
     asking = [
@@ -400,8 +408,10 @@ def refuse_message(batch: Batch, place: int, name: str) -> None:
     batch.answers[place] = Answer("refused", name, write_reply(one.text, name))
 
 
-def find_all_rules(store: Database, sites: Iterable[str]) -> dict[str, Rules]:
+def find_all_rules(store: Database, sites: Collection[str]) -> dict[str, Rules]:
     """The rules of sites."""
+    if not sites:
+        return {}
     asked = f"select site, {RULES_COLUMNS} from site where site"
     if store.kind == "postgresql":
         rows = store.fetch(f"{asked} = any(:sites)", sites=sorted(sites))
@@ -758,7 +768,7 @@ def order_session(
         )
         if row is None:
             raise InputError(f"the store has no transaction {transaction!r} of station {station!r}")
-        lock_sites(store, [row.site], False)
+        share_sites(store, [], [row.site])
         store.execute(
             "update session set own_order = :order where station = :station and transaction_id = :transaction",
             order=order,

@@ -49,6 +49,10 @@ NETWORK = {
     "keepalives_count": 3,
     "tcp_user_timeout": 10_000,
 }
+ONCE = """
+set plan_cache_mode = force_generic_plan; set enable_hashjoin = off; set enable_mergejoin = off;
+set enable_seqscan = off
+"""
 # To compile a plan over all partitions takes far longer than to run it.
 SETTINGS = """
 set time zone 'UTC'; set jit = off; set tcp_keepalives_idle = 10; set tcp_keepalives_interval = 5;
@@ -134,6 +138,9 @@ class Database:
     def close(self) -> None:
         """Closes the store."""
         raise NotImplementedError
+
+    def plan_once(self) -> None:
+        """Has statements that name keys planned once: they look each key up in an index, however many there are."""
 
     def fetch_one(self, statement: str, **values: Any) -> Row | None:
         """The first row of a statement; None where it has none."""
@@ -357,6 +364,11 @@ class PostgresDatabase(Database):
             cursor.itersize = 5_000
             cursor.execute(write_postgresql(statement), values)
             yield from cursor
+
+    @report_faults
+    def plan_once(self) -> None:
+        """To plan a statement over all partitions takes longer than to run it for some keys."""
+        self.connection.execute(ONCE)
 
     @contextmanager
     def transaction(self) -> Iterator[None]:
