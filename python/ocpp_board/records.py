@@ -4,8 +4,9 @@ from dataclasses import dataclass
 from datetime import datetime
 from typing import NamedTuple
 
-# The deeds of operators.
+# The deeds of operators, and how the line of a message begins.
 DEEDS = ("void", "restore", "erase")
+DELIVER = "deliver "
 
 
 class Message(NamedTuple):

@@ -19,8 +19,8 @@ from pathlib import Path
 
 from ocpp_board.commands.options import add_store
 from ocpp_board.errors import InputError, UsageError
-from ocpp_board.ledger.rows import DELIVER
 from ocpp_board.ledger.scripts import OWN_ORDERS, Script, part_scripts
+from ocpp_board.records import DELIVER
 from ocpp_board.sources.script import OPERATOR, write_comment
 from ocpp_board.statuses import Status
 from ocpp_board.store.database import Database, Row, open_store

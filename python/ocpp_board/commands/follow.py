@@ -325,7 +325,7 @@ class Follow:
         self.logs = [
             FollowedLog(path, name, options, self.plan) for path, name in zip(options.logs, names)
         ]
-        self.renewer = Renewer(store, options.shown) if options.shown else None
+        self.renewer = Renewer(store, options.shown, options.processes) if options.shown else None
         self.lines: queue.Queue[bytes] = queue.Queue()
         self.is_ending = False
         self.is_caught_up = False

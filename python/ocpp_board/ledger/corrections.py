@@ -9,10 +9,10 @@ from ocpp_board.energies import kwh
 from ocpp_board.errors import InputError
 from ocpp_board.ledger.engine import settle
 from ocpp_board.ledger.program import Program
-from ocpp_board.ledger.rows import DELIVER, Rows, Work, work_out
+from ocpp_board.ledger.rows import Rows, Work, work_out
 from ocpp_board.messages.corrected import correct_reading
 from ocpp_board.messages.meter_values import JSON
-from ocpp_board.records import Asked, Deed, Line, Message
+from ocpp_board.records import DELIVER, Asked, Deed, Line, Message
 from ocpp_board.store.database import Database
 from ocpp_board.store.lines import read_lines
 from ocpp_board.store.plan import Author, find_session_rules

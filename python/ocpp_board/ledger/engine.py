@@ -10,17 +10,19 @@ from collections.abc import Callable, Iterable, Iterator, Sequence
 from contextlib import AbstractContextManager, nullcontext
 from dataclasses import dataclass, field
 from datetime import datetime, timezone
-from functools import partial
+from functools import lru_cache, partial
 from operator import attrgetter
 from typing import Any, NamedTuple, Protocol
 
 from ocpp_board.errors import InputError
 from ocpp_board.ledger.answers import Wish
+from ocpp_board.ledger.course import Course
 from ocpp_board.ledger.program import find_program
 from ocpp_board.ledger.quotas import (
     FLOODS,
     TOO_MANY_STRAYS,
     Asking,
+    find_quotas,
     find_refused,
     find_strays_above,
     write_reply,
@@ -40,14 +42,14 @@ from ocpp_board.ledger.refusals import (
     name_cause,
     read_levels,
 )
-from ocpp_board.ledger.rows import DELIVER, Done, Work, list_accepted, work_out
+from ocpp_board.ledger.rows import Done, Work, list_accepted, work_out
 from ocpp_board.limits import FIRST_MOMENT
 from ocpp_board.messages.texts import is_unanswered, one_line
 from ocpp_board.messages.times import SECOND
-from ocpp_board.records import Answer, Asked, Deed, Line, Message, Rules, Untaken
+from ocpp_board.records import DELIVER, Answer, Asked, Deed, Line, Message, Rules, Untaken
 from ocpp_board.store import lines as store_lines
 from ocpp_board.store.database import Database, Row, choose
-from ocpp_board.store.lines import Held, Kept, Key, Warm, Writer
+from ocpp_board.store.lines import Held, Kept, Key, Warm, Writer, Written
 from ocpp_board.store.plan import (
     RULES_COLUMNS,
     Author,
@@ -68,6 +70,8 @@ TAKEN, MENDED = "taken", "mended"
 TEXTS_AT_ONCE, BYTES_AT_ONCE = 2_000, 1_048_576
 # Transactions that are computed again at once where rules change.
 SESSIONS_AT_ONCE = 2_000
+# Moments that have their nanoseconds kept, since many messages come at one.
+KEPT_MOMENTS = 1_024
 EPOCH = datetime(1970, 1, 1, tzinfo=timezone.utc)
 
 
@@ -173,6 +177,7 @@ def ask_piece(piece: tuple[list[str], list[int | None]]) -> list[Wish]:
     return find_program().ask(*piece)
 
 
+@lru_cache(KEPT_MOMENTS)
 def to_nanoseconds(at: datetime | None) -> int | None:
     """A moment in nanoseconds since 1970."""
     if at is None:
@@ -264,16 +269,18 @@ def write_batch(
     deeds = find_done(store, batch)
     batch.answers |= deeds
     works = make_works(store, batch, held, deeds)
-    writer = Writer(store, warm is not None)
+    writer, kept = Writer(store), dict[Key, Kept]()
     for key, work, done in work_on(works, pool, foreseen):
-        take_answers(writer, batch, work, done, held[key], deeds)
+        take_answers(store, batch, work, done, held[key], deeds)
+        if now := write_rows(writer, work, held[key], done):
+            kept[key] = now
     writer.write()
     write_refusals(store, batch)
     write_decided(store, batch)
     write_strays(store, batch)
     write_mended(store, batch)
     write_levels(store, batch, sites)
-    return writer.kept
+    return kept
 
 
 def make_works(
@@ -286,7 +293,12 @@ def make_works(
     for key, one in held.items():
         new = list_new(batch, batch.sessions[key], deeds)
         own = own_rules(rules[one.site], one.own_order, powers.get(key[0]))
-        works[key] = Work(*key, one.site, own, one.lines, new, list_conflicts(key, one))
+        course: Course | None = one.kept.course if one.kept else None
+        if course is not None and course.rules != own:
+            # All rows were computed again meanwhile.
+            course, held[key] = None, one._replace(kept=None)
+        conflicts = list_conflicts(key, one)
+        works[key] = Work(*key, one.site, own, one.lines, new, conflicts, course=course)
     return works
 
 
@@ -350,6 +362,9 @@ def refuse_strays(store: Database, batch: Batch) -> None:
 
 def refuse_by_quotas(store: Database, batch: Batch, sites: dict[str, str]) -> None:
     """Answers messages that are above a quota of their site, which change nothing."""
+    quotas = find_quotas(store, sorted(set(sites.values())))
+    if not quotas:
+        return
     asking = [
         Asking(place, one, key)
         for key, places in batch.sessions.items()
@@ -363,7 +378,7 @@ def refuse_by_quotas(store: Database, batch: Batch, sites: dict[str, str]) -> No
         if id(one) in values and isinstance(one, Message) and one.station in sites
     ]
     asking.sort(key=attrgetter("place"))
-    for place, name in find_refused(store, asking, sites).items():
+    for place, name in find_refused(store, asking, sites, quotas).items():
         one = batch.asked[place]
         assert isinstance(one, Message)
         key = (one.station, batch.wishes[place].text)
@@ -483,30 +498,31 @@ def work_piece(works: list[Work]) -> list[Done]:
 
 
 def take_answers(
-    writer: Writer, batch: Batch, work: Work, done: Done, held: Held, deeds: dict[int, Answer]
+    store: Database, batch: Batch, work: Work, done: Done, held: Held, deeds: dict[int, Answer]
 ) -> None:
-    """Notes the answers to a transaction's lines, and has its lines and rows written."""
-    key, store, taken = (work.station, work.transaction), writer.store, set[int]()
+    """Notes the answers to a transaction's lines."""
+    key, taken = (work.station, work.transaction), set[int]()
     waiting = {row.digest for row in held.refusals}
-    places = [place for place in batch.sessions[key] if place not in deeds]
-    for place, (outcome, name, reply, change) in zip(places, done.answers):
-        batch.answers[place] = Answer(outcome, name, reply, key[1], change)
+    places = batch.sessions[key]
+    if deeds:
+        places = [place for place in places if place not in deeds]
+    for place, answer in zip(places, done.answers):
+        batch.answers[place] = answer
         one = batch.asked[place]
-        if isinstance(one, Message):
-            if outcome in ("accepted", "repeat"):
-                taken.add(batch.wishes[place].number)
-                if one.came:
-                    batch.decided.append(
-                        Decided(one.station, digest_text(keep_text(one.came)), MENDED)
-                    )
-                elif waiting and (digest := digest_text(keep_text(one.text))) in waiting:
-                    batch.decided.append(Decided(one.station, digest, TAKEN))
-            elif outcome in ("refused", "fault"):
-                refusal = describe_message(one.text, name, one.received)
-                batch.refusals.append((one, refusal, key[1]))
-        elif isinstance(one, Deed):
-            write_deed(store, one, batch.answers[place])
-    write_rows(writer, work, held, done)
+        if isinstance(one, Deed):
+            write_deed(store, one, answer)
+        elif not isinstance(one, Message):
+            continue
+        elif answer.outcome in ("accepted", "repeat"):
+            taken.add(batch.wishes[place].number)
+            if one.came:
+                digest = digest_text(keep_text(one.came))
+                batch.decided.append(Decided(one.station, digest, MENDED))
+            elif waiting and (digest := digest_text(keep_text(one.text))) in waiting:
+                batch.decided.append(Decided(one.station, digest, TAKEN))
+        elif answer.outcome in ("refused", "fault"):
+            refusal = describe_message(one.text, answer.name, one.received)
+            batch.refusals.append((one, refusal, key[1]))
     untaken = [row for row in held.refusals if row.cause == UNTAKEN and row.number in taken]
     if untaken:
         store.execute_each(
@@ -515,20 +531,18 @@ def take_answers(
         )
 
 
-def write_rows(writer: Writer, work: Work, held: Held, done: Done) -> None:
-    """Has the accepted lines of a transaction and its rows written."""
+def write_rows(writer: Writer, work: Work, held: Held, done: Done) -> Kept | None:
+    """Has the accepted lines of a transaction and its rows written, and gives what is to be kept of it."""
     key = work.station, work.transaction
     if done.rows is None:
         if not held.lines:
             writer.drop_empty(key)
-        return
-    parts = [one._asdict() for one in done.rows.parts]
-    findings = [
-        {"kind": one.kind.label, "times": one.times, "first_at": one.first, "detail": one.detail}
-        for one in done.rows.findings
-    ]
-    session = done.rows.session._asdict()
-    writer.add(key, held, list_accepted(work, done.answers), session, parts, findings)
+        return held.kept
+    findings = [(one.kind.label, one.times, one.first, one.detail) for one in done.rows.findings]
+    accepted = list_accepted(work, done.answers)
+    return writer.add(
+        key, Written(held, accepted, done.rows.session, done.rows.parts, findings, done.course)
+    )
 
 
 def write_deed(store: Database, one: Deed, answer: Answer) -> None:

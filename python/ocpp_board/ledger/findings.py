@@ -3,11 +3,10 @@
 from collections.abc import Iterable, Iterator, Sequence
 from datetime import datetime
 from enum import Enum
-from itertools import pairwise
 from typing import NamedTuple
 
 from ocpp_board.energies import MWH_OF_A_KWH, kwh
-from ocpp_board.ledger.events import History, LiveEvents
+from ocpp_board.ledger.events import Counted, LiveEvents
 from ocpp_board.messages.transactions import Event, Reading, moment
 
 
@@ -143,29 +142,6 @@ class Finding(NamedTuple):
     detail: str = ""
 
 
-def find_doubts(
-    history: History,
-    events: LiveEvents,
-    is_complete: bool,
-    by_sequence: str | None,
-    most_kw: int = MOST_KW,
-) -> list[Finding]:
-    """The findings of a session by its history and by its events that are live, in their order. `by_sequence`: what
-    would have its site's readings taken by moment, where they are not. `most_kw`: the greatest power that can be.
-    """
-    if not events:
-        return []
-    found = [*find_no_energy(events, is_complete), *find_id_again(history, events)]
-    found += (
-        find_falls_by_time(events)
-        if by_sequence is None
-        else find_falls_by_sequence(events, by_sequence)
-    )
-    found += [*find_powers(events, most_kw), *find_signed(events)]
-    found += [*find_clocks(events), *find_numbers(history, events)]
-    return sort_findings(found)
-
-
 def sort_findings(found: Iterable[Finding]) -> list[Finding]:
     """Findings, the gravest first."""
     return sorted(found, key=lambda one: ORDER[one.kind])
@@ -175,42 +151,11 @@ def sort_findings(found: Iterable[Finding]) -> list[Finding]:
 ORDER = {kind: place for place, kind in enumerate(Kind)}
 
 
-def make_finding(kind: Kind, events: Sequence[Event], detail: str = "") -> Iterator[Finding]:
-    """A finding as often as there are events of it; none where there are none."""
-    if events:
-        first = min((one.at for one in events if one.at is not None), default=None)
-        yield Finding(kind, len(events), moment(first), detail)
-
-
-def find_no_energy(events: Sequence[Event], is_complete: bool) -> Iterator[Finding]:
-    """Whether a session has no reading that counts."""
-    if any(event.readings for event in events):
-        return
-    others = [event for event in events if event.others]
-    seen = sorted({one for event in others for one in event.others})
-    if others:
-        more = f" and {len(seen) - MOST_SEEN:,} more" if len(seen) > MOST_SEEN else ""
-        yield from make_finding(Kind.OTHER_ENERGY, others, ", ".join(seen[:MOST_SEEN]) + more)
-    elif is_complete:
-        yield from make_finding(Kind.NO_READING, events[-1:])
-
-
-def find_id_again(history: History, events: Sequence[Event]) -> Iterator[Finding]:
-    """The events that came under the id after its first end: later numbers, or later times that were refused. The end
-    itself with another time is none."""
-    end = next((event for event in events if event.kind == "Ended"), None)
-    if end is None:
-        return
-    after = [event for event in events if event.number > end.number]
-    after += [
-        one
-        for one in history.conflicts
-        if (one.number, one.kind) != (end.number, end.kind)
-        and one.at is not None
-        and end.at is not None
-        and one.at > end.at
-    ]
-    yield from make_finding(Kind.ID_AGAIN, after)
+def make_finding(kind: Kind, noted: Sequence[tuple[Event, str]]) -> Iterator[Finding]:
+    """A finding as often as there are events of it, with the detail of the first; none where there are none."""
+    if noted:
+        first = min((event.at for event, _ in noted if event.at is not None), default=None)
+        yield Finding(kind, len(noted), moment(first), noted[0][1])
 
 
 def name_order_option(site: str, where: str = "") -> str:
@@ -218,30 +163,6 @@ def name_order_option(site: str, where: str = "") -> str:
     its place there."""
     line = f"`order {site} moment`{' ' if where else ''}{where}"
     return f"`--order {site}=moment` of report, follow or log-to-script (in a script line {line})"
-
-
-def find_powers(events: LiveEvents, most_kw: int) -> Iterator[Finding]:
-    """Where a register rose faster than can be, from one reading to the next that has a later moment."""
-    found, first = list[Event](), ""
-    for is_export in (False, True):
-        for (_, had), (event, one) in pairwise(events.readings(is_export)):
-            if had.at is None or one.at is None or one.at < had.at:
-                continue
-            seconds = one.at - had.at
-            # Moments are given to a second; readings of one moment may be of the same minute.
-            longest = seconds + 1 if seconds else 60
-            kw = (one.mwh - had.mwh) * 3600 / MWH_OF_A_KWH / longest
-            if kw > most_kw:
-                found.append(event)
-                first = first or f"{kwh(one.mwh - had.mwh)} kWh in {seconds:,.0f} s"
-    yield from make_finding(Kind.POWER, found, first)
-
-
-def find_signed(events: Sequence[Event]) -> Iterator[Finding]:
-    """Where signed values differ from plain ones."""
-    found = [event for event in events for _ in event.unlike]
-    if found:
-        yield from make_finding(Kind.SIGNED, found, found[0].unlike[0])
 
 
 class Fall(NamedTuple):
@@ -270,9 +191,10 @@ def report_falls(falls: Sequence[Fall], readings: Sequence[Reading]) -> Iterator
         < starts[fall.one.is_export]
     ]
     yield from make_finding(
-        Kind.REGISTER_FALLS, [fall.event for fall in falls if fall not in resets]
+        Kind.REGISTER_FALLS, [(fall.event, "") for fall in falls if fall not in resets]
     )
-    yield from make_finding(Kind.RESET, [fall.event for fall in resets], describe_falls(resets))
+    lost = describe_falls(resets)
+    yield from make_finding(Kind.RESET, [(fall.event, lost) for fall in resets])
 
 
 def describe_falls(falls: Sequence[Fall]) -> str:
@@ -284,34 +206,8 @@ def describe_falls(falls: Sequence[Fall]) -> str:
     return f"{kwh(lost)} kWh lost: {each}"
 
 
-def find_falls_by_time(events: LiveEvents) -> Iterator[Finding]:
-    """Where a register falls from one reading to the next, by their own moments: what is listed again is no fall."""
-    falls, readings = list[Fall](), list[Reading]()
-    for is_export in (False, True):
-        found = events.readings(is_export)
-        readings += [one for _, one in found]
-        falls += [
-            Fall(event, had, one) for (_, had), (event, one) in pairwise(found) if one.mwh < had.mwh
-        ]
-    yield from report_falls(falls, readings)
-
-
-def is_rising(found: Sequence[tuple[Event, Reading]]) -> bool:
-    """Whether each reading of a register is more than the one before, or as much and later."""
-    return all(
-        had.mwh < one.mwh
-        or had.mwh == one.mwh
-        and had.at is not None
-        and one.at is not None
-        and had.at < one.at
-        for (_, had), (_, one) in pairwise(found)
-    )
-
-
 def find_falls_by_sequence(events: LiveEvents, remedy: str) -> Iterator[Finding]:
     """Where a register falls from one reading to the next, and where readings are listed again."""
-    if all(is_rising(events.readings(is_export)) for is_export in (False, True)):
-        return
     seen = set[Reading]()
     before: dict[bool, Reading] = {}
     falls, repeats, readings = list[Fall](), list[Event](), list[Reading]()
@@ -329,22 +225,125 @@ def find_falls_by_sequence(events: LiveEvents, remedy: str) -> Iterator[Finding]
             before[one.is_export] = one
         seen.update(event.readings)
     yield from report_falls(falls, readings)
-    yield from make_finding(Kind.REPEATED, repeats, f"{remedy} takes them by moment")
+    by_moment = f"{remedy} takes them by moment"
+    yield from make_finding(Kind.REPEATED, [(event, by_moment) for event in repeats])
 
 
-def find_clocks(events: Sequence[Event]) -> Iterator[Finding]:
-    """Where times go back from one event to the next, or lie far from the receipt."""
-    timed = [event for event in events if event.at is not None]
-    back = [
-        event
-        for event, before in zip(timed[1:], timed)
-        if event.at is not None and before.at is not None and event.at < before.at
-    ]
-    yield from make_finding(Kind.CLOCK_BACK, back)
-    yield from make_finding(Kind.CLOCK_FAR, [event for event in events if event.is_far])
+class Doubts:
+    """What is doubtful in a transaction. It takes the events and the counted readings in their order, each once: so
+    where a transaction goes on, nothing of it is looked at again."""
+
+    def __init__(self, by_sequence: str | None, most_kw: int) -> None:
+        """`by_sequence`: what would have the site's readings taken by moment, where they are not; `most_kw`: the
+        greatest power that can be."""
+        self.by_sequence, self.most_kw = by_sequence, most_kw
+        # The doubtful events by their kinds, with a detail each.
+        self.noted: dict[Kind, list[tuple[Event, str]]] = {}
+        self.last_at: float | None = None
+        self.end: Event | None = None
+        # By register, where its power was too great, where it fell, and whether it rose all the time.
+        self.powers: tuple[list[tuple[Event, str]], ...] = [], []
+        self.falls: tuple[list[Fall], ...] = [], []
+        self.rises = [True, True]
+
+    def note(self, kind: Kind, event: Event, detail: str = "") -> None:
+        """Notes a doubtful event."""
+        self.noted.setdefault(kind, []).append((event, detail))
+
+    def take_events(self, events: Iterable[Event]) -> None:
+        """Takes further events."""
+        for event in events:
+            if event.at is not None:
+                if self.last_at is not None and event.at < self.last_at:
+                    self.note(Kind.CLOCK_BACK, event)
+                self.last_at = event.at
+            if event.is_far:
+                self.note(Kind.CLOCK_FAR, event)
+            if event.others:
+                self.note(Kind.OTHER_ENERGY, event)
+            for said in event.unlike:
+                self.note(Kind.SIGNED, event, said)
+            if self.end:
+                self.note(Kind.ID_AGAIN, event)
+            elif event.kind == "Ended":
+                self.end = event
+
+    def take_readings(self, is_export: bool, had: Reading | None, found: Iterable[Counted]) -> None:
+        """Takes further readings of a register. `had`: the one before them."""
+        for event, one in found:
+            if had is not None:
+                if one.mwh < had.mwh:
+                    self.falls[is_export].append(Fall(event, had, one))
+                elif one.mwh > had.mwh and find_power(had, one) > self.most_kw:
+                    self.powers[is_export].append((event, describe_rise(had, one)))
+                if one.mwh < had.mwh or one.mwh == had.mwh and not is_later(had, one):
+                    self.rises[is_export] = False
+            had = one
+
+    def find(
+        self, events: LiveEvents, conflicts: Sequence[Event], is_complete: bool
+    ) -> list[Finding]:
+        """The findings so far, the gravest first. `events`: all that were taken; `conflicts`: those that conflicted
+        with them."""
+        if not events:
+            return []
+        noted = self.noted.get
+        found = [*self.find_no_energy(events, is_complete), *self.find_id_again(conflicts)]
+        if self.by_sequence is None and any(self.falls):
+            found += report_falls(sum(self.falls, []), events.list_readings())
+        elif self.by_sequence is not None and not all(self.rises):
+            found += find_falls_by_sequence(events, self.by_sequence)
+        found += make_finding(Kind.POWER, sum(self.powers, []))
+        for kind in (Kind.SIGNED, Kind.CLOCK_BACK, Kind.CLOCK_FAR):
+            found += make_finding(kind, noted(kind, []))
+        if first := events.first_number:
+            found += make_finding(Kind.NUMBERS_ABOVE_0, [(events[0], f"the first is {first}")])
+        return sort_findings(found)
+
+    def find_no_energy(self, events: LiveEvents, is_complete: bool) -> Iterator[Finding]:
+        """Whether a session has no reading that counts."""
+        if events.has_readings():
+            return
+        if others := self.noted.get(Kind.OTHER_ENERGY):
+            seen = sorted({one for event, _ in others for one in event.others})
+            more = f" and {len(seen) - MOST_SEEN:,} more" if len(seen) > MOST_SEEN else ""
+            detail = ", ".join(seen[:MOST_SEEN]) + more
+            yield from make_finding(Kind.OTHER_ENERGY, [(event, detail) for event, _ in others])
+        elif is_complete:
+            yield from make_finding(Kind.NO_READING, [(events[-1], "")])
+
+    def find_id_again(self, conflicts: Sequence[Event]) -> Iterator[Finding]:
+        """The events that came under the id after its first end: later numbers, or later times that were refused. The
+        end itself with another time is none."""
+        end = self.end
+        if end is None:
+            return
+        after = [
+            (one, "")
+            for one in conflicts
+            if (one.number, one.kind) != (end.number, end.kind)
+            and one.at is not None
+            and end.at is not None
+            and one.at > end.at
+        ]
+        yield from make_finding(Kind.ID_AGAIN, self.noted.get(Kind.ID_AGAIN, []) + after)
 
 
-def find_numbers(history: History, events: Sequence[Event]) -> Iterator[Finding]:
-    """Whether the first number that came is above 0, be it voided or not."""
-    if first := min(history.told):
-        yield from make_finding(Kind.NUMBERS_ABOVE_0, events[:1], f"the first is {first}")
+def find_power(had: Reading, one: Reading) -> float:
+    """The power in kW by which a register rose from one reading to the next; 0 where that has an earlier time."""
+    if had.at is None or one.at is None or one.at < had.at:
+        return 0
+    seconds = one.at - had.at
+    # Moments are given to a second; readings of one moment may be of the same minute.
+    return (one.mwh - had.mwh) * 3600 / MWH_OF_A_KWH / (seconds + 1 if seconds else 60)
+
+
+def describe_rise(had: Reading, one: Reading) -> str:
+    """What a register rose by, and in which time."""
+    assert had.at is not None and one.at is not None
+    return f"{kwh(one.mwh - had.mwh)} kWh in {one.at - had.at:,.0f} s"
+
+
+def is_later(had: Reading, one: Reading) -> bool:
+    """Whether a reading has a later time than the one before."""
+    return had.at is not None and one.at is not None and had.at < one.at

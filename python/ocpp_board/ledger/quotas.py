@@ -48,13 +48,13 @@ def find_quotas(store: Database, sites: Sequence[str]) -> dict[str, Quota]:
 
 
 def find_refused(
-    store: Database, asking: Sequence[Asking], sites: Mapping[str, str]
+    store: Database,
+    asking: Sequence[Asking],
+    sites: Mapping[str, str],
+    quotas: Mapping[str, Quota],
 ) -> dict[int, str]:
     """The places of messages that are above a quota, each with the quota's name; what the others have is counted. The
     database transaction holds the sites of these stations."""
-    quotas = find_quotas(store, sorted(set(sites.values())))
-    if not quotas:
-        return {}
     refused = dict[int, str]()
     stations = {one.message.station for one in asking if sites[one.message.station] in quotas}
     for station in sorted(stations):

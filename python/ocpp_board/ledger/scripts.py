@@ -5,9 +5,9 @@ from dataclasses import dataclass, field, replace
 from itertools import groupby
 from operator import attrgetter
 
-from ocpp_board.ledger.rows import DELIVER, count_readings
+from ocpp_board.ledger.course import count_readings
 from ocpp_board.limits import GREATEST_LIMITS, MOST_READINGS, MOST_STATIONS, ORDERS
-from ocpp_board.records import Rules
+from ocpp_board.records import DELIVER, Rules
 from ocpp_board.store.database import Row
 
 # The orders that a transaction may have, and first none of its own.

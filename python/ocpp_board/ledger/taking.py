@@ -13,11 +13,11 @@ from typing import Any, NamedTuple
 from ocpp_board.errors import InputError, UsageError
 from ocpp_board.ledger.corrections import find_texts
 from ocpp_board.ledger.engine import MENDED, TAKEN, renew_sessions, settle
-from ocpp_board.ledger.events import read_event
 from ocpp_board.ledger.refusals import digest_text, keep_text
-from ocpp_board.ledger.rows import DELIVER
 from ocpp_board.limits import MOMENT, TRANSACTION
 from ocpp_board.messages.corrected import rename_transaction
+from ocpp_board.messages.meter_values import JSON
+from ocpp_board.messages.times import seconds_of
 from ocpp_board.records import Answer, Asked, Deed, Message
 from ocpp_board.sources.mend import Fault, Mended, Mender
 from ocpp_board.store.database import Database, Row
@@ -214,8 +214,8 @@ def move_events(
     asked, now = list[Asked](), datetime.now(timezone.utc)
     who, why, operator = author.who, author.why, f"operator {author.who}"
     for number, came in sorted(find_texts(stored).items()):
-        event = read_event(f"{DELIVER}{station} {came.text}", came.received, 0).event
-        if event.at is None or event.at < how.since.timestamp():
+        at = seconds_of(JSON.decode(came.text)[3]["timestamp"])
+        if at is None or at < how.since.timestamp():
             continue
         asked += [
             Deed(word, station, transaction, number, who, why, now, operator)

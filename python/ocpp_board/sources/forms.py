@@ -96,6 +96,9 @@ def find_text(of: Members, field: str) -> str:
 
 def require_text(entry: dict[str, Any], field: str, what: str = "") -> str:
     """A member that has to be a text. Raises Refused where it is not. `what`: of what it is the field."""
+    value = entry.get(field)
+    if isinstance(value, str):
+        return value
     value = find_member(entry, field)
     if isinstance(value, str):
         return value

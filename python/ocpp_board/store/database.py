@@ -213,7 +213,7 @@ class SqliteDatabase(Database):
         self.connection.executemany(statement, values)
 
     @report_faults
-    def insert_rows(self, statement: str, rows: Iterable[tuple[Any, ...]]) -> None:
+    def execute_rows(self, statement: str, rows: Iterable[tuple[Any, ...]]) -> None:
         """Runs a statement for each of these rows, by the places of its marks `?`."""
         self.connection.executemany(statement, rows)
 

@@ -2,7 +2,7 @@
 
 import json
 from collections import OrderedDict
-from collections.abc import Iterable, Sequence
+from collections.abc import Iterable, Iterator, Sequence
 from dataclasses import dataclass, field
 from datetime import datetime, timezone
 from typing import Any, NamedTuple
@@ -17,8 +17,11 @@ sent_id token token_type remote_start_id signed holes reading_moments boundary_m
 received_until""".split()
 # The columns of a line, in the order of `records.Line`.
 LINE = "station transaction_id number line received who why origin".split()
-# Those columns of a transaction that have what its station sent.
-SENT = ("stopped_reason", "sent_id", "token", "token_type", "remote_start_id", "signed")
+# The places of those columns of a transaction that have what its station sent.
+SENT = [
+    SESSION.index(name)
+    for name in ("stopped_reason", "sent_id", "token", "token_type", "remote_start_id", "signed")
+]
 PART = "starts up down export_up export_down on_board measured shared numbers_missing".split()
 FINDING = "kind times first_at detail".split()
 OF_SESSION = "station = :station and transaction_id = :transaction"
@@ -28,14 +31,6 @@ MOST_TEXTS = 1_000
 MANY, ONE_OF_MANY = "many", "one of many"
 # Characters of the places of a text that are kept.
 LONGEST_ORIGINS = 4_000
-
-
-def insert_text(table: str, keys: Sequence[str], columns: Sequence[str]) -> str:
-    """A statement that inserts a row, or writes its other columns where it is there."""
-    names = [*keys, *columns]
-    changes = ", ".join(f"{name} = excluded.{name}" for name in columns)
-    return f"""insert into {table} ({', '.join(names)}) values ({', '.join(f':{name}' for name in names)})
-    on conflict ({', '.join(keys)}) do update set {changes}"""
 
 
 KEYS = ("station", "transaction_id")
@@ -187,7 +182,7 @@ def hold_sessions(
     kept = {
         key: one
         for key, rows in zip(keys, had)
-        if rows and warm and (one := warm.find(key, rows[0].lines, rows[0].changed_at))
+        if rows and warm and (one := warm.take(key, rows[0].lines, rows[0].changed_at))
     }
     stored = [key for key, rows in zip(keys, had) if rows and rows[0].lines and key not in kept]
     lines = dict(zip(stored, read_lines(store, stored)))
@@ -225,95 +220,91 @@ def read_refusals(store: Database, keys: Sequence[Key]) -> Iterable[list[Row]]:
 
 # What a process stored last ------------------------------------------------------------------------------------------
 
+Values = tuple[Any, ...]  # Those of a row, in the order of its columns.
+
 
 @dataclass(slots=True)
 class Kept:
-    """The lines of a transaction, and the rows of its periods and findings by the first of their columns."""
+    """The lines of a transaction, the rows of its periods and findings by the first of their columns, and what the
+    ledger knows of its lines."""
 
     lines: list[Line] = field(default_factory=list)
-    parts: dict[Any, tuple[Any, ...]] = field(default_factory=dict)
-    findings: dict[Any, tuple[Any, ...]] = field(default_factory=dict)
+    parts: dict[Any, Values] = field(default_factory=dict)
+    findings: dict[Any, Values] = field(default_factory=dict)
     changed_at: datetime | None = None
-    size: int = 0
+    course: Any = None
+
+    def measure(self) -> int:
+        """About how many bytes it takes."""
+        return sum(len(line.text) for line in self.lines) + 1_500 * len(self.lines) + 1_000
 
 
 class Warm:
     """What a process stored last of transactions, so that it needn't read it again. It counts while the transaction's
     row has the count of lines and the moment of change that this process wrote."""
 
-    def __init__(self, most: int = 64 * 1_048_576) -> None:
-        """`most`: characters of lines that are kept."""
+    def __init__(self, most: int = 256 * 1_048_576) -> None:
+        """`most`: about how many bytes are kept."""
         self.most, self.size = most, 0
-        self.kept = OrderedDict[Key, Kept]()
+        self.kept = OrderedDict[Key, tuple[Kept, int]]()
 
-    def find(self, key: Key, lines: int, changed_at: datetime | None) -> Kept | None:
-        """What is kept of a transaction, where that is what is stored."""
-        kept = self.kept.get(key)
-        if kept is None:
+    def take(self, key: Key, lines: int, changed_at: datetime | None) -> Kept | None:
+        """Takes out what is kept of a transaction; none where something else is stored."""
+        if key not in self.kept:
             return None
-        if changed_at is None or (len(kept.lines), kept.changed_at) != (lines, changed_at):
-            self.drop(key)
-            return None
-        self.kept.move_to_end(key)
-        return kept
-
-    def drop(self, key: Key) -> None:
-        """Keeps nothing of a transaction."""
-        if kept := self.kept.pop(key, None):
-            self.size -= kept.size
+        kept, size = self.kept.pop(key)
+        self.size -= size
+        is_stored = changed_at is not None and (len(kept.lines), kept.changed_at) == (
+            lines,
+            changed_at,
+        )
+        return kept if is_stored else None
 
     def keep(self, key: Key, kept: Kept) -> None:
         """Keeps what was committed of a transaction; others go where there is no room."""
-        self.drop(key)
-        kept.size = sum(len(line.text) for line in kept.lines) + 1_000
-        self.kept[key] = kept
-        self.size += kept.size
+        size = kept.measure()
+        self.kept[key] = kept, size
+        self.size += size
         while self.size > self.most:
-            self.drop(next(iter(self.kept)))
+            _, (_, size) = self.kept.popitem(last=False)
+            self.size -= size
 
 
 # Writing -------------------------------------------------------------------------------------------------------------
 
 
+class Written(NamedTuple):
+    """What a transaction has in the store from now on. `accepted`: its new lines; `course`: what the ledger knows of
+    all."""
+
+    held: Held
+    accepted: Sequence[Line]
+    session: Values
+    parts: Sequence[Values]
+    findings: Sequence[Values]
+    course: Any
+
+
 class Writer:
     """Collects what changed of transactions, and writes it, each table by one statement in PostgreSQL."""
 
-    def __init__(self, store: Database, keeps: bool = False) -> None:
-        """`keeps`: what is written is kept, too."""
-        self.store, self.keeps = store, keeps
-        self.at = datetime.now(timezone.utc)
-        self.lines: list[tuple[Any, ...]] = []
-        self.sessions: list[dict[str, Any]] = []
-        self.rows: dict[Key, tuple[Held, list[dict[str, Any]], list[dict[str, Any]]]] = {}
+    def __init__(self, store: Database) -> None:
+        self.store, self.at = store, datetime.now(timezone.utc)
+        self.rows: dict[Key, Written] = {}
         self.empty: list[Key] = []
-        # What is stored of transactions once the database transaction is committed.
-        self.kept: dict[Key, Kept] = {}
 
-    def add(
-        self,
-        key: Key,
-        held: Held,
-        accepted: Sequence[Line],
-        session: dict[str, Any],
-        parts: list[dict[str, Any]],
-        findings: list[dict[str, Any]],
-    ) -> None:
-        """Collects the accepted lines of a transaction, and its rows."""
-        front = {"station": key[0], "transaction_id": key[1]}
-        self.lines += [(*key, *line) for line in accepted]
-        for name in SENT:
-            session[name] = clean_text(session[name])
-        self.sessions.append(front | {"site": held.site, "changed_at": self.at} | session)
-        self.rows[key] = held, parts, findings
-        if self.keeps:
-            self.kept[key] = Kept(
-                [*held.lines, *accepted],
-                {one["starts"]: tuple(one.values()) for one in parts},
-                {one["kind"]: tuple(one.values()) for one in findings},
-                self.at,
-            )
-        if len(self.sessions) >= WRITTEN_AT_ONCE:
+    def add(self, key: Key, one: Written) -> Kept:
+        """Collects what a transaction has, and gives what is to be kept of it once it is committed."""
+        self.rows[key] = one
+        if len(self.rows) >= WRITTEN_AT_ONCE:
             self.write()
+        return Kept(
+            [*one.held.lines, *one.accepted],
+            {row[0]: row for row in one.parts},
+            {row[0]: row for row in one.findings},
+            self.at,
+            one.course,
+        )
 
     def drop_empty(self, key: Key) -> None:
         """Collects a transaction that was held and has no lines: its row goes again."""
@@ -322,106 +313,128 @@ class Writer:
 
     def write(self) -> None:
         """Writes what was collected."""
-        if self.lines:
-            insert_lines(self.store, self.lines)
-        columns = ["site", *SESSION, "changed_at"]
-        write_each(self.store, "session", KEYS, columns, self.sessions, compared=SESSION)
-        unknown = sorted(key for key, (held, _, _) in self.rows.items() if held.kept is None)
-        for table, columns, place in (("part", PART, 1), ("finding", FINDING, 2)):
-            had = dict(zip(unknown, fetch_keyed(self.store, ", ".join(columns), table, unknown)))
-            before = dict[Key, dict[Any, tuple[Any, ...]]]()
+        lines = [(*key, *line) for key, one in self.rows.items() for line in one.accepted]
+        insert_rows(self.store, "line", LINE, lines)
+        sessions = [
+            (*key, one.held.site, self.at, *clean_session(one.session))
+            for key, one in self.rows.items()
+        ]
+        columns = [*KEYS, "site", "changed_at", *SESSION]
+        write_rows(self.store, "session", columns, KEYS, sessions, compared=SESSION)
+        unknown = sorted(key for key, one in self.rows.items() if one.held.kept is None)
+        parts = {key: one.parts for key, one in self.rows.items()}
+        findings = {key: one.findings for key, one in self.rows.items()}
+        for table, columns, rows in (("part", PART, parts), ("finding", FINDING, findings)):
+            before = dict(zip(unknown, read_by_first(self.store, table, columns, unknown)))
             for key, one in self.rows.items():
-                if kept := one[0].kept:
-                    before[key] = dict(kept.parts if place == 1 else kept.findings)
-                else:
-                    before[key] = {
-                        getattr(row, columns[0]): tuple(getattr(row, name) for name in columns)
-                        for row in had[key]
-                    }
-            own = {key: one[1] if place == 1 else one[2] for key, one in self.rows.items()}
-            write_differences(self.store, table, columns, before, own)
+                if kept := one.held.kept:
+                    before[key] = kept.parts if table == "part" else kept.findings
+            write_differences(self.store, table, columns, before, rows)
         if self.empty:
             delete_each(self.store, "session", self.empty)
-        self.lines, self.sessions, self.rows, self.empty = [], [], {}, []
+        self.rows, self.empty = {}, []
 
 
-def insert_lines(store: Database, rows: Sequence[tuple[Any, ...]]) -> None:
-    """Adds lines, each with the values of LINE; one that is there fails."""
-    names = ", ".join(LINE)
-    if isinstance(store, SqliteDatabase):
-        store.insert_rows(f"insert into line ({names}) values ({', '.join('?' * len(LINE))})", rows)
-        return
-    # PostgreSQL has a type `line` of its own, so the table's can't be named here.
-    store.execute(
-        f"""insert into line ({names}) select {names} from json_to_recordset(:rows) as r (station text,
-        transaction_id text, number int, received timestamptz, line text, who text, origin text, why text)""",
-        rows=json.dumps([dict(zip(LINE, row)) for row in rows], default=datetime.isoformat),
-    )
+def read_by_first(
+    store: Database, table: str, columns: Sequence[str], keys: Sequence[Key]
+) -> Iterator[dict[Any, Values]]:
+    """The rows of each of these transactions by the first of these columns."""
+    for rows in fetch_keyed(store, ", ".join(columns), table, keys):
+        values = [tuple(getattr(row, name) for name in columns) for row in rows]
+        yield {one[0]: one for one in values}
+
+
+def clean_session(session: Values) -> Values:
+    """The row of a transaction, its texts as both databases keep them."""
+    if all(session[place].isascii() and "\0" not in session[place] for place in SENT):
+        return session
+    return tuple(clean_text(one) if n in SENT else one for n, one in enumerate(session))
 
 
 def clean_text(text: str) -> str:
     """A text as both databases keep it: without the character 0, and without half a surrogate pair."""
-    if text.isascii() and "\0" not in text:
-        return text
     return text.replace("\0", "\ufffd").encode("utf-8", "replace").decode()
 
 
-def write_each(
-    store: Database,
-    table: str,
-    keys: Sequence[str],
-    columns: Sequence[str],
-    rows: Sequence[dict[str, Any]],
-    compared: Sequence[str] = (),
+def write_json(columns: Sequence[str], rows: Iterable[Values]) -> str:
+    """Rows as the JSON of a table."""
+    return json.dumps([dict(zip(columns, row)) for row in rows], default=datetime.isoformat)
+
+
+def insert_rows(
+    store: Database, table: str, columns: Sequence[str], rows: Sequence[Values], more: str = ""
 ) -> None:
-    """Inserts rows, or writes their other columns where they are there. `compared`: the columns of which one has to
-    differ for that."""
+    """Inserts rows, each with the values of these columns; without `more` one that is there fails."""
     if not rows:
         return
-    where = ""
+    names, marks = ", ".join(columns), ", ".join("?" * len(columns))
+    if isinstance(store, SqliteDatabase):
+        store.execute_rows(f"insert into {table} ({names}) values ({marks}) {more}", rows)
+    elif table == "line":
+        # PostgreSQL has a type `line` of its own, so the table's can't be named here.
+        store.execute(
+            f"""insert into line ({names}) select {names} from json_to_recordset(:rows) as r (station text,
+            transaction_id text, number int, received timestamptz, line text, who text, origin text, why text)""",
+            rows=write_json(columns, rows),
+        )
+    else:
+        store.execute(
+            f"""insert into {table} ({names}) select {names} from json_populate_recordset(null::{table}, :rows)
+            {more}""",
+            rows=write_json(columns, rows),
+        )
+
+
+def write_rows(
+    store: Database,
+    table: str,
+    columns: Sequence[str],
+    keys: Sequence[str],
+    rows: Sequence[Values],
+    compared: Sequence[str] = (),
+) -> None:
+    """Inserts rows, or writes their columns beside the keys where they are there. `compared`: the columns of which one
+    has to differ for that."""
+    changes = ", ".join(f"{name} = excluded.{name}" for name in columns if name not in keys)
+    more = f"on conflict ({', '.join(keys)}) do update set {changes}"
     if compared:
         had, has = (", ".join(f"{of}.{name}" for name in compared) for of in (table, "excluded"))
-        where = f" where ({had}) is distinct from ({has})"
-    if store.kind == "sqlite":
-        store.execute_each(insert_text(table, keys, columns) + where, rows)
-        return
-    names = ", ".join([*keys, *columns])
-    changes = ", ".join(f"{name} = excluded.{name}" for name in columns)
-    store.execute(
-        f"""insert into {table} ({names}) select {names} from json_populate_recordset(null::{table}, :rows)
-        on conflict ({', '.join(keys)}) do update set {changes}{where}""",
-        rows=json.dumps(rows, default=datetime.isoformat),
-    )
+        more += f" where ({had}) is distinct from ({has})"
+    insert_rows(store, table, columns, rows, more)
 
 
 def write_differences(
     store: Database,
     table: str,
     columns: Sequence[str],
-    before: dict[Key, dict[Any, tuple[Any, ...]]],
-    own: dict[Key, list[dict[str, Any]]],
+    before: dict[Key, dict[Any, Values]],
+    own: dict[Key, Sequence[Values]],
 ) -> None:
     """Writes the rows of transactions in `part` or `finding`: those that are not there or differ; others go."""
-    name = columns[0]
-    more, gone = list[dict[str, Any]](), list[dict[str, Any]]()
+    keys = [*KEYS, columns[0]]
+    more, gone = list[Values](), list[Values]()
     for key, rows in own.items():
-        front, had = {"station": key[0], "transaction_id": key[1]}, before[key]
-        for one in rows:
-            if had.pop(one[name], None) != tuple(one.values()):
-                more.append(front | one)
-        gone += [front | {name: value} for value in had]
-    if gone and store.kind == "sqlite":
-        where = f"station = :station and transaction_id = :transaction_id and {name} = :{name}"
-        store.execute_each(f"delete from {table} where {where}", gone)
-    elif gone:
-        store.execute(
-            f"""delete from {table} t using json_populate_recordset(null::{table}, :rows) g
-            where t.station = g.station and t.transaction_id = g.transaction_id and t.{name} = g.{name}
-                and t.station = any(:stations)""",
-            rows=json.dumps(gone, default=datetime.isoformat),
-            stations=list_stations((one["station"], "") for one in gone),
-        )
-    write_each(store, table, (*KEYS, name), columns[1:], more)
+        had = before[key]
+        more += [(*key, *one) for one in rows if had.get(one[0]) != one]
+        gone += [(*key, first) for first in had.keys() - {one[0] for one in rows}]
+    if gone:
+        delete_rows(store, table, keys, gone)
+    write_rows(store, table, [*KEYS, *columns], keys, more)
+
+
+def delete_rows(store: Database, table: str, keys: Sequence[str], rows: Sequence[Values]) -> None:
+    """Deletes the rows with these keys."""
+    if isinstance(store, SqliteDatabase):
+        where = " and ".join(f"{name} = ?" for name in keys)
+        store.execute_rows(f"delete from {table} where {where}", rows)
+        return
+    where = " and ".join(f"t.{name} = g.{name}" for name in keys)
+    store.execute(
+        f"""delete from {table} t using json_populate_recordset(null::{table}, :rows) g
+        where {where} and t.station = any(:stations)""",
+        rows=write_json(keys, rows),
+        stations=list_stations((row[0], row[1]) for row in rows),
+    )
 
 
 def delete_each(store: Database, table: str, keys: Sequence[Key]) -> None:

@@ -140,9 +140,9 @@ create table session (
     own_order text not null default '' check (own_order in ('', 'sequence', 'moment')),  -- where it is not the site's
     primary key (station, transaction_id)
 ) /*postgresql partition by hash (station)*/;
-create index session_site on session (site, station);
+create index session_site on session (site, station, evse, first_at, transaction_id);
 create index session_changed on session (changed_at);
-create index session_time on session (station, evse, first_at);
+create index session_time on session (station, first_at, evse);
 create index session_site_first on session (site, first_at);
 create index session_site_last on session (site, last_at, first_at);
 create index session_lacking on session (site, station) where events > 0 and not complete;

@@ -14,11 +14,11 @@ from starlette.responses import HTMLResponse, Response
 from ocpp_board.energies import Flow, kwh
 from ocpp_board.ledger.engine import settle
 from ocpp_board.ledger.program import find_program
-from ocpp_board.ledger.rows import DELIVER, Rows, Work, work_out
+from ocpp_board.ledger.rows import Rows, Work, work_out
 from ocpp_board.limits import GREATEST_SEQ_NO, TRANSACTION, is_name
 from ocpp_board.messages.message_faults import REMEDIES
 from ocpp_board.messages.texts import one_line
-from ocpp_board.records import DEEDS, Deed, Line
+from ocpp_board.records import DEEDS, DELIVER, Deed, Line
 from ocpp_board.store.database import Database
 from ocpp_board.store.lines import read_lines, read_refusals
 from ocpp_board.store.plan import find_session_rules

@@ -76,6 +76,7 @@ REFUSED = [
 OPERATOR = ["time (UTC)", "who", "what", "site", "station", "transaction", "seqNo", "why", "answer"]
 MENDED = ["time (UTC)", "site", "station", "transaction", "seqNo", "mended", "as it came"]
 REFUSED_ORDER = "order by first_at, station, sent_id, number, cause, what"
+SESSION_ORDER = "order by coalesce(t.place, 0), s.station, s.transaction_id"
 KINDS = {kind.label: kind for kind in Kind}
 # The places of the kinds of findings: by what they do to figures, the gravest first, and by the kind.
 EFFECTS = [*Effect]
@@ -217,6 +218,7 @@ class SiteTables:
     ) -> None:
         """`day`: tables have only what began on this day of the site's zone; `book`: findings that were read before."""
         self.store, self.site, self.options, self.day = store, site, options, day
+        self.out = out
         self.book = book or Book(store)
         self.calendar = find_calendar(site.zone)
         self.folder = out / name_file(site.site)
@@ -238,19 +240,16 @@ class SiteTables:
         """The heads of the columns of a moment."""
         return [f"{name} (UTC)", *([] if self.calendar.is_utc else [f"{name} ({self.site.zone})"])]
 
-    def find_span(self) -> tuple[datetime, datetime]:
-        """The first moment of the tables' day, and the first one after it."""
-        assert self.day
-        return self.calendar.begin(self.day), self.calendar.end(self.day)
-
-    def fetch_sessions(self, columns: str, order: str, station: str | None = None) -> list[Row]:
+    def fetch_sessions(
+        self, columns: str, order: str, station: str | None = None, last: date | None = None
+    ) -> list[Row]:
         """These columns of the transactions of the site, or of one of its stations: of those that began on the tables'
-        day."""
+        day, or on a day from it to the last one."""
         text, values = "", dict[str, Any]()
         if station is not None:
             text, values = " and s.station = :station", {"station": station}
         if self.day is not None:
-            since, until = self.find_span()
+            since, until = self.calendar.begin(self.day), self.calendar.end(last or self.day)
             # By the first two an index finds them.
             text += (
                 " and s.last_at >= :since and s.first_at < :until"
@@ -269,17 +268,23 @@ class SiteTables:
     def write_periods(self, stations: Iterable[str] | None = None) -> None:
         """Writes the table of periods. `stations`: those of which something changed, where the book has the others.
         Raises OSError."""
+        if stations is None:
+            self.put_periods(self.list_periods())
+        else:
+            self.put_day(self.book.read_periods(self, stations))
+
+    def put_day(self, day: "DayPeriods") -> None:
+        """Writes the table of periods of a day that was read. Raises OSError."""
+        site = self.write_rows("site", "", "", day.list_sums(), None)
+        self.put_periods(chain(site, day.texts.values()))
+
+    def put_periods(self, rows: Iterable[str]) -> None:
+        """Writes the table of periods of these rows. Raises OSError."""
         zones = ["UTC"] if self.calendar.is_utc else ["UTC", self.site.zone]
         times = [f"period {end} ({zone})" for end in ("start", "end") for zone in zones]
         heads = ["level", "site", "station", "EVSE", "seconds", *times, "period", *FLOWS]
         heads += ["net (kWh)", "figure", "shared by time (kWh)", "numbers missing"]
-        heads += ["readings", "settle"]
-        if stations is None:
-            write_csv(self.path("periods"), heads, (), self.list_periods())
-            return
-        day = self.book.read_periods(self, stations)
-        site = self.write_rows("site", "", "", day.list_sums(), None)
-        write_csv(self.path("periods"), heads, (), chain(site, day.texts.values()))
+        write_csv(self.path("periods"), [*heads, "readings", "settle"], (), rows)
 
     def list_periods(self) -> Iterator[str]:
         """The rows of the table of periods: those of the site, then each station's and its EVSEs'."""
@@ -310,22 +315,25 @@ class SiteTables:
             **values,
         )
 
-    def fetch_evse_periods(self, station: str) -> list[Row]:
-        """The energy of the periods of a station's EVSEs."""
-        text, values = self.span_of_rows()
+    def fetch_evse_periods(self, station: str, last: date | None = None) -> list[Row]:
+        """The energy of the periods of a station's EVSEs: of the tables' day, or of the days from it to the last one.
+        Those of days are found by the index by station and time, and not by that of the site, which has all years.
+        """
+        text, values = self.span_of_rows(last)
+        site = "site" if self.day is None else "site || ''"
         return self.store.fetch(
             "select evse, starts, up, down, export_up, export_down, estimated, shared, lacks_numbers "
-            f"from evse_period where site = :site and station = :station {text} order by evse, starts",
+            f"from evse_period where {site} = :site and station = :station {text} order by evse, starts",
             site=self.site.site,
             station=station,
             **values,
         )
 
-    def span_of_rows(self) -> tuple[str, dict[str, Any]]:
-        """What keeps periods to the days that are shown, and its values."""
+    def span_of_rows(self, until: date | None = None) -> tuple[str, dict[str, Any]]:
+        """What keeps periods to the days that are shown, and its values. `until`: the last one, if it is another."""
         first, last = self.options.first, self.options.last
         if self.day:
-            first = last = self.day
+            first, last = self.day, until or self.day
         texts, values = list[str](), dict[str, Any]()
         if first != date.min:
             texts.append("and starts >= :since")
@@ -397,23 +405,32 @@ class SiteTables:
 
     def write_transactions(self, stations: Iterable[str] | None = None) -> None:
         """Writes the table of transactions. `stations`: as in `write_periods`. Raises OSError."""
+        if stations is None:
+            self.put_transactions(self.list_transactions())
+        else:
+            self.put_transactions((), self.book.read_transactions(self, stations))
+
+    def put_transactions(self, rows: Iterable[list[Cell]], texts: Iterable[str] = ()) -> None:
+        """Writes the table of transactions of these rows, and of those that are text. Raises OSError."""
         ends = [head for name in ("start", "end") for head in self.moment_heads(name)]
         heads = ["site", "station", "transaction", "EVSE (0: not named)", "events", "first seqNo"]
         heads += ["last seqNo", "complete", "missing", "gaps (from..to)", *FLOWS, "state"]
         heads += ["net (kWh)", *ends, "duration (s)", "first register (kWh)", "last register (kWh)"]
         heads += ["first export register (kWh)", "last export register (kWh)", "stopped reason"]
         heads += ["findings", *BILL_HEADS, "readings"]
-        if stations is None:
-            write_csv(self.path("transactions"), heads, self.list_transactions())
-            return
-        write_csv(self.path("transactions"), heads, (), self.book.read_transactions(self, stations))
+        write_csv(self.path("transactions"), heads, rows, texts)
 
     def list_transactions(self, station: str | None = None) -> Iterator[list[Cell]]:
         """The rows of the table of transactions, or those of a station."""
+        return self.write_sessions(self.fetch_sessions("s.*", SESSION_ORDER, station), station)
+
+    def write_sessions(
+        self, rows: Iterable[Row], station: str | None = None
+    ) -> Iterator[list[Cell]]:
+        """The rows of transactions. `station`: the one that all are of."""
         findings = self.book.read(self.site.site, station)
         found = group_rows(findings, lambda row: (row.station, row.transaction_id))
-        order = "order by coalesce(t.place, 0), s.station, s.transaction_id"
-        for row in self.fetch_sessions("s.*", order, station):
+        for row in rows:
             yield self.write_transaction(row, found.get((row.station, row.transaction_id), []))
 
     def write_transaction(self, row: Row, found: Sequence[Row]) -> list[Cell]:
@@ -459,11 +476,40 @@ class SiteTables:
         how many. Raises OSError."""
         order = "and s.signed <> '' order by s.station, s.transaction_id"
         rows = self.fetch_sessions("s.station, s.sent_id, s.signed", order, station)
-        folder = self.folder / "signed"
+        return self.put_signed(rows)
+
+    def put_signed(self, rows: Sequence[Row]) -> int:
+        """Writes the files of signed values of these transactions, and gives how many. Raises OSError."""
         for row in rows:
             details = [Details(signed=tuple(read_signed(row.signed)))]
-            write_signed(folder, row.station, row.sent_id, details)
+            write_signed(self.folder / "signed", row.station, row.sent_id, details)
         return len(rows)
+
+    # Days -------------------------------------------------------------------------------------------------------------
+
+    def write_days(self, days: Sequence[date]) -> int:
+        """Writes the tables of some days, which are read at once, and gives how many. These tables have the first of
+        them. Raises OSError."""
+        calendar, last, order = self.calendar, days[-1], SESSION_ORDER
+        own = {day: self.take_day(day) for day in days}
+        periods = {day: DayPeriods() for day in days}
+        for station in self.list_stations():
+            rows = self.fetch_evse_periods(station, last)
+            for day, some in group_rows(rows, lambda row: calendar.day(row.starts)).items():
+                if day in own:
+                    text = "".join(own[day].write_station(station, some))
+                    periods[day].put(station, sum_starts(some), text)
+        sessions = self.fetch_sessions("s.*", order, last=last)
+        begun = group_rows(sessions, lambda row: calendar.day(row.began or row.first_at))
+        for day, tables in own.items():
+            tables.put_day(periods[day])
+            tables.put_transactions(tables.write_sessions(begun.get(day, [])))
+        self.put_signed([row for row in sessions if row.signed])
+        return 2 * len(days)
+
+    def take_day(self, day: date) -> "SiteTables":
+        """The tables of a day."""
+        return SiteTables(self.store, self.out, self.site, self.options, day, self.book)
 
     # Findings and what changed nothing --------------------------------------------------------------------------------
 

@@ -10,7 +10,6 @@
 The pages that go on behind a full one are NAME.2.html and so on. Each file is there whole or as it was.
 """
 
-import gc
 import os
 import re
 import time
@@ -24,6 +23,7 @@ from markupsafe import Markup
 
 from ocpp_board.store.database import Database, open_again
 from ocpp_board.writers.calendar import Calendar, find_calendar
+from ocpp_board.writers.copies import share_work
 from ocpp_board.writers.pages.context import Context, PageOptions
 from ocpp_board.writers.pages.day_book import DayBook
 from ocpp_board.writers.pages.day_pages import MOST_STATIONS, make_day_page, make_station_day_page
@@ -47,8 +47,6 @@ from ocpp_board.writers.pages.summaries import Summaries
 PATHS = FilePaths()
 # Sessions whose days are kept, where pages are written again, and days of one session that are written.
 KEPT_SESSIONS, MOST_SESSION_DAYS = 20_000, 62
-# Stations for each process that writes, at least, and chunks of them that it takes one after the other, at most.
-FEWEST, CHUNKS = 2, 32
 # The names of pages of a site's folder.
 OURS = re.compile(
     r"(index|stations|findings|lacking|refused|deeds|session-.*|\d{4}-\d\d(-\d\d)?)(\.\d+)?\.html"
@@ -117,15 +115,22 @@ class PageWriter:
         for site in sites:
             names = self.summaries.site(site.name)
             parts += [Share(site, None), *(Share(site, name) for name in names)]
-        share_work(self, parts)
+        workers = self.options.workers
+        self.count = share_work(parts, workers, self.write_share, self.open_copy)
         self.write_index(sites)
         for site in sites:
             remove_old(f"{self.out}/{PATHS.scope(site.name, None)}", begun)
         return self.count
 
-    def write_share(self, part: Share) -> None:
-        """Writes the pages of a site or of one of its stations."""
-        site, station = part
+    def open_copy(self) -> Callable[[Share], int]:
+        """What writes in a copy of this process."""
+        own = PageWriter(open_again(self.store), self.out, self.options)
+        own.written, own.summaries.kept = self.written, self.summaries.kept
+        return own.write_share
+
+    def write_share(self, part: Share) -> int:
+        """Writes the pages of a site or of one of its stations, and gives how many."""
+        (site, station), before = part, self.count
         history = self.book.open_history(site, station) if station is not None else None
         for month in find_months(self.open_context("index.html"), site, station):
             if history:
@@ -142,6 +147,7 @@ class PageWriter:
             self.write_all_sessions(site, station)
         self.book.made.clear()
         self.book.history = None
+        return self.count - before
 
     def write_all_sessions(self, site: Site, station: str) -> None:
         """Writes the pages of all transactions of a station."""
@@ -390,59 +396,6 @@ def remove_old(folder: str, begun: float) -> None:
                 remove_old(entry.path, begun)
             elif OURS.fullmatch(entry.name) and entry.stat().st_mtime < begun - 1:
                 os.unlink(entry.path)
-
-
-def share_work(writer: PageWriter, parts: Sequence[Share]) -> None:
-    """Writes parts, in copies of this process where there are enough of them. Raises what the writing raises."""
-    copies = max(1, min(writer.options.workers, len(parts) // FEWEST))
-    if copies == 1:
-        for part in parts:
-            writer.write_share(part)
-        return
-    count = min(len(parts), CHUNKS * copies)
-    chunks = [parts[place::count] for place in range(count)]
-    asked, done = os.pipe(), os.pipe()
-    os.write(asked[1], b"".join(place.to_bytes(4, "big") for place in range(count)))
-    os.close(asked[1])
-    numbers = [fork_writer(writer, chunks, asked[0], done) for _ in range(copies)]
-    os.close(asked[0])
-    os.close(done[1])
-    with open(done[0], "rb") as file:
-        while record := file.read(8):
-            chunks[int.from_bytes(record[:4], "big")] = ()
-            writer.count += int.from_bytes(record[4:], "big")
-    for number in numbers:
-        os.waitpid(number, 0)
-    # What a copy that ended before its time had.
-    for chunk in chunks:
-        for part in chunk:
-            writer.write_share(part)
-
-
-def fork_writer(
-    writer: PageWriter, chunks: Sequence[Sequence[Share]], asked: int, done: tuple[int, int]
-) -> int:
-    """Writes chunks of parts, whose places it reads from `asked`, in a copy of this process with a connection of its
-    own, and gives the number of the process. For each it writes its place and how many pages it has to `done`.
-    """
-    number = os.fork()
-    if number:
-        return number
-    gc.disable()
-    status = 1
-    try:
-        os.close(done[0])
-        own = PageWriter(open_again(writer.store), writer.out, writer.options)
-        own.written, own.summaries.kept = writer.written, writer.summaries.kept
-        while place := os.read(asked, 4):
-            own.count = 0
-            for part in chunks[int.from_bytes(place, "big")]:
-                own.write_share(part)
-            os.write(done[1], place + own.count.to_bytes(4, "big"))
-        status = 0
-    finally:
-        # Nothing of what this process does at its end is the copy's.
-        os._exit(status)
 
 
 def write_pages(

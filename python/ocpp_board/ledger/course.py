@@ -1,0 +1,124 @@
+"""What is known of a transaction as far as its lines came: it goes on with what comes behind them."""
+
+from collections.abc import Sequence
+from typing import NamedTuple
+
+from ocpp_board.ledger.answers import Lists
+from ocpp_board.ledger.events import History, LiveEvents
+from ocpp_board.ledger.findings import Doubts, name_order_option
+from ocpp_board.ledger.periods import Spans
+from ocpp_board.messages.bills import NOTHING, Details, Signed
+from ocpp_board.messages.transactions import Event
+from ocpp_board.records import DELIVER, Line, Rules
+
+# Readings of one message that count, at most, and the least bytes of one.
+MOST_OF_A_MESSAGE, LEAST_READING = 1_024, 11
+
+
+class Room(NamedTuple):
+    """What a script has to keep of lines: their events and readings, at most, and their characters."""
+
+    events: int = 0
+    readings: int = 0
+    size: int = 0
+
+    def add(self, lines: Sequence[Line]) -> "Room":
+        """With further lines."""
+        events, readings, size = self
+        for line in lines:
+            text = line.text
+            size += len(text)
+            if text.startswith(DELIVER):
+                events += 1
+                readings += count_readings(text)
+        return Room(events, readings, size)
+
+
+def count_readings(text: str) -> int:
+    """How many readings a text has, at most."""
+    if "\\" in text:
+        return min(MOST_OF_A_MESSAGE, len(text) // LEAST_READING + 1)
+    return min(MOST_OF_A_MESSAGE, text.count('"value"'))
+
+
+class Facts:
+    """What a bill needs of a transaction's live events."""
+
+    def __init__(self) -> None:
+        # The first that begins it, the last that ends it, and whether another than the first begins or ends it.
+        self.started: Event | None = None
+        self.ended: Event | None = None
+        self.is_misplaced = False
+        # The first token and remote start, the first and the last signed value, and the first and the last key.
+        self.token, self.remote_start = NOTHING, ""
+        self.signed: list[Signed] = []
+        self.keys: list[str] = []
+
+    def take_events(self, events: Sequence[Event], is_first: bool) -> None:
+        """Takes further events in their order. `is_first`: there was none before."""
+        for place, event in enumerate(events):
+            if event.kind != "Updated":
+                self.is_misplaced = self.is_misplaced or place > 0 or not is_first
+                if event.kind == "Ended":
+                    self.ended = event
+                elif self.started is None:
+                    self.started = event
+            if event.details is not NOTHING:
+                self.take_details(event.details)
+
+    def take_details(self, details: Details) -> None:
+        """Takes what an event has for a bill."""
+        if details.token and not self.token.token:
+            self.token = details
+        self.remote_start = self.remote_start or details.remote_start
+        for one in details.signed:
+            self.signed[1:] = [one]
+            if one.key:
+                self.keys[1:] = [one.key]
+
+    def list_signed(self) -> list[list[str]]:
+        """The first and the last signed value, each with its key: one that was sent without has the one that was sent
+        last, or else first; none where there is none."""
+        if not self.signed:
+            return []
+        keys = self.keys or [""]
+        return [[self.signed[place].data, keys[place]] for place in (0, -1)]
+
+
+class Course:
+    """What is known of the lines of a transaction, and of what the program lists of them."""
+
+    def __init__(self, site: str, rules: Rules) -> None:
+        self.rules, self.count = rules, 0
+        self.room, self.history = Room(), History()
+        self.lists = Lists([], [], [])
+        self.events, self.facts, self.spans = LiveEvents(), Facts(), Spans(rules.period)
+        by_sequence = None if rules.order == "moment" else name_order_option(site)
+        self.doubts = Doubts(by_sequence, rules.most_kw)
+
+    def goes_on(self, lines: Sequence[Line], lists: Lists, rules: Rules) -> bool:
+        """Whether further lines leave what is known as it is, by these lists of the program."""
+        return (
+            rules == self.rules
+            and all(line.text.startswith(DELIVER) for line in lines)
+            and all(now[: len(known)] == known for now, known in zip(lists, self.lists))
+        )
+
+    def take(self, lines: Sequence[Line], lists: Lists) -> None:
+        """Takes further lines, and what these lists have behind those of the lines before."""
+        self.count += len(lines)
+        self.room = self.room.add(lines)
+        self.history.take(lines)
+        new = Lists(*(now[len(known) :] for now, known in zip(lists, self.lists)))
+        self.lists = lists
+        count, counts = len(self.events), [len(found) for found in self.events.orders]
+        self.events.take(new, self.history)
+        events = self.events[count:]
+        self.facts.take_events(events, count == 0)
+        self.doubts.take_events(events)
+        self.spans.take_events(events)
+        for is_export, count in zip((False, True), counts):
+            found = self.events.orders[is_export]
+            had = found[count - 1][1] if count else None
+            self.doubts.take_readings(is_export, had, found[count:])
+            self.spans.take_readings(is_export, had, found[count:])
