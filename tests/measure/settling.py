@@ -4,7 +4,7 @@
     tests/one measure.settling batches --events 48
 
 `growing`: a transaction of so many events; the last of them come by themselves, and what each costs is shown. `batches`:
-60 stations send transactions of so many events, each a message in each batch. Times are those of a processor, in
+60 stations send transactions of so many events, each a message in each batch. Times are of a processor, in
 milliseconds a message: of this process, with the library's part of them, and of PostgreSQL's process.
 """
 
@@ -58,8 +58,10 @@ class Spent:
         """What a message cost."""
         own, other = time.process_time() - self.own, self.read_other() - self.other
         each = [1_000 * one / messages for one in (own + other, own, self.library, other)]
-        return "{:.2f} ms a message: {:.2f} here ({:.2f} by the library), {:.2f} by PostgreSQL".format(
-            *each
+        return (
+            "{:.2f} ms a message: {:.2f} here ({:.2f} by the library), {:.2f} by PostgreSQL".format(
+                *each
+            )
         )
 
 
