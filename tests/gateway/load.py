@@ -19,7 +19,7 @@ from dataclasses import dataclass, field
 from typing import cast
 from urllib.parse import urlsplit
 
-from tests.gateway.client import PASSWORD, make_event, make_login
+from tests.gateway.client import BEGIN, PASSWORD, make_event, make_login
 
 # Seconds until a station that got no reply connects anew, and until one that lost its connection does so.
 PATIENCE, PAUSE = 60.0, 0.1
@@ -138,8 +138,12 @@ class Station(asyncio.Protocol):
     def __init__(self, load: Load, number: int) -> None:
         plan = load.plan
         self.load, self.name, self.turn = load, f"L-{number}", number
+        # The last transaction ends about now, so that no clock is far from the time of receipt for long.
+        first = int(time.time() - BEGIN.timestamp()) - 60 * plan.events * plan.rounds
         self.rest = [
-            make_sent(f"{self.name}.{plan.start}.{one}", k, plan.events, 86_400 * (one % 25))
+            make_sent(
+                f"{self.name}.{plan.start}.{one}", k, plan.events, first + 60 * plan.events * one
+            )
             for one in range(plan.rounds)
             for k in range(plan.events)
         ]

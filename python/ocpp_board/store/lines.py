@@ -9,7 +9,16 @@ from typing import Any, NamedTuple
 
 from ocpp_board.errors import StoreError
 from ocpp_board.records import LeftOut, Line
-from ocpp_board.store.database import Database, Row, SqliteDatabase, choose, write_moment
+from ocpp_board.store.database import (
+    EPOCH,
+    Database,
+    Row,
+    SqliteDatabase,
+    choose,
+    count_days,
+    count_hours,
+    write_moment,
+)
 
 SESSION = """lines evse events voided first_number last_number complete missing gaps up down export_up export_down state
 began ended first_at last_at first_register last_register first_export_register last_export_register stopped_reason
@@ -22,6 +31,7 @@ SENT = [
     SESSION.index(name)
     for name in ("stopped_reason", "sent_id", "token", "token_type", "remote_start_id", "signed")
 ]
+LAST_AT = SESSION.index("last_at")
 PART = "starts up down export_up export_down on_board measured shared numbers_missing".split()
 FINDING = "kind times first_at detail".split()
 OF_SESSION = "station = :station and transaction_id = :transaction"
@@ -34,7 +44,7 @@ LONGEST_ORIGINS = 4_000
 
 
 KEYS = ("station", "transaction_id")
-EPOCH, MICROSECOND = datetime(1970, 1, 1, tzinfo=timezone.utc), timedelta(microseconds=1)
+MICROSECOND = timedelta(microseconds=1)
 # When a row of `session` was changed, as a whole number where the database has one, which costs little to read.
 CHANGED = (
     "/*sqlite changed_at*/ /*postgresql cast(extract(epoch from changed_at) * 1000000 as bigint)*/"
@@ -137,9 +147,9 @@ def fetch_keyed(
     follows the condition."""
     if not keys:
         return []
-    if store.kind == "sqlite":
+    if store.kind == "sqlite" or len(keys) == 1:
         asked = f"select {columns} from {table} where {OF_SESSION} {more}"
-        return list(store.fetch_each(asked, name_keys(keys)))
+        return [store.fetch(asked, **one) for one in name_keys(keys)]
     found: list[list[Row]] = [[] for _ in keys]
     for row in store.fetch(
         f"""select k.place, t.* from json_to_recordset(:keys) as k (place int, s text, t text) cross join lateral (
@@ -245,7 +255,7 @@ def read_refusals(store: Database, keys: Sequence[Key]) -> Iterable[list[Row]]:
 
 def read_some_refusals(store: Database, keys: Sequence[Key]) -> dict[Key, list[Row]]:
     """The same of those of these transactions whose stations have some."""
-    if store.kind == "postgresql" and keys:
+    if store.kind == "postgresql" and len(keys) > 1:
         rows = store.fetch(
             "select distinct station from refusal where station = any(:stations) and decision = ''",
             stations=list_stations(keys),
@@ -356,11 +366,12 @@ class Writer:
         """Writes what was collected."""
         lines = [(*key, *line) for key, one in self.rows.items() for line in one.accepted]
         insert_rows(self.store, "line", LINE, lines)
+        hour = count_hours(self.at)
         sessions = [
-            (*key, one.held.site, self.at, *clean_session(one.session))
+            (*key, one.held.site, self.at, hour, find_day(one.session), *clean_session(one.session))
             for key, one in self.rows.items()
         ]
-        columns = [*KEYS, "site", "changed_at", *SESSION]
+        columns = [*KEYS, "site", "changed_at", "changed_hour", "last_day", *SESSION]
         write_rows(self.store, "session", columns, KEYS, sessions, compared=SESSION)
         unknown = sorted(key for key, one in self.rows.items() if one.held.kept is None)
         parts = {key: one.parts for key, one in self.rows.items()}
@@ -383,6 +394,12 @@ def read_by_first(
     for rows in fetch_keyed(store, ", ".join(columns), table, keys):
         values = [tuple(getattr(row, name) for name in columns) for row in rows]
         yield {one[0]: one for one in values}
+
+
+def find_day(session: Values) -> int | None:
+    """The last day of a transaction."""
+    last = session[LAST_AT]
+    return None if last is None else count_days(last)
 
 
 def clean_session(session: Values) -> Values:
