@@ -3,9 +3,9 @@
     tests/one measure.settling growing --events 480
     tests/one measure.settling batches --events 48
 
-`growing`: a transaction of so many events; the last of them come by themselves, and what each costs is shown. `batches`:
-60 stations send transactions of so many events, each a message in each batch. Times are those of a processor, in
-milliseconds a message: of this process, with the library's part of them, and of PostgreSQL's process.
+`growing`: a transaction of so many events; the last of them come by themselves, and what each costs is shown.
+`batches`: 60 stations send transactions of so many events, each a message in each batch. Times are those of a
+processor, in milliseconds a message: of this process, with the library's part of them, and of PostgreSQL's process.
 """
 
 import argparse
@@ -26,7 +26,7 @@ from tests.store.cluster import run_cluster
 from tests.store.scene import check, plan
 from tests.traffic.script import FIRST, START, kind_of, message
 
-STATIONS, ROUNDS, LAST = 60, 3, 40
+STATIONS, ROUNDS, LAST = 60, 3, 100
 SITE_SECONDS, RISE = 60, 50
 
 
@@ -58,8 +58,10 @@ class Spent:
         """What a message cost."""
         own, other = time.process_time() - self.own, self.read_other() - self.other
         each = [1_000 * one / messages for one in (own + other, own, self.library, other)]
-        return "{:.2f} ms a message: {:.2f} here ({:.2f} by the library), {:.2f} by PostgreSQL".format(
-            *each
+        return (
+            "{:.2f} ms a message: {:.2f} here ({:.2f} by the library), {:.2f} by PostgreSQL".format(
+                *each
+            )
         )
 
 
@@ -87,10 +89,10 @@ def measure_growing(store: Database, events: int) -> str:
     plan(store)
     lines = [make_message("CS-01", "T1", number, events + 1) for number in range(events)]
     warm = Warm()
-    settle(store, lines[:-LAST], warm=warm)
-    for line in lines[-LAST : -LAST // 2]:
+    settle(store, lines[: -2 * LAST], warm=warm)
+    for line in lines[-2 * LAST : -LAST]:
         settle(store, [line], warm=warm)
-    return measure(store, [[line] for line in lines[-LAST // 2 :]], warm)
+    return measure(store, [[line] for line in lines[-LAST:]], warm)
 
 
 def measure_batches(store: Database, events: int) -> str:

@@ -6,7 +6,7 @@ answer is given only after the commit. A failure gives none, and the same may co
 """
 
 import re
-from collections.abc import Callable, Iterable, Iterator, Sequence
+from collections.abc import Callable, Collection, Iterable, Iterator, Mapping, Sequence
 from contextlib import AbstractContextManager, nullcontext
 from dataclasses import dataclass, field
 from datetime import datetime, timezone
@@ -22,9 +22,10 @@ from ocpp_board.ledger.quotas import (
     FLOODS,
     TOO_MANY_STRAYS,
     Asking,
-    find_quotas,
+    Quota,
     find_refused,
     find_strays_above,
+    read_quotas,
     write_reply,
 )
 from ocpp_board.ledger.refusals import (
@@ -51,7 +52,6 @@ from ocpp_board.store import lines as store_lines
 from ocpp_board.store.database import Database, Row, choose
 from ocpp_board.store.lines import Held, Kept, Key, Warm, Writer, Written
 from ocpp_board.store.plan import (
-    RULES_COLUMNS,
     Author,
     lock_sites,
     own_rules,
@@ -259,16 +259,14 @@ def write_batch(
     store: Database, batch: Batch, pool: Pool | None, warm: Warm | None, foreseen: Foreseen
 ) -> dict[Key, Kept]:
     """Writes what a batch changes, within a database transaction, and answers the rest of it."""
-    sites = hold_sites(store, batch)
-    leave_strays(batch, sites)
+    plan = hold_plan(store, batch, warm)
+    leave_strays(batch, plan.sites)
     refuse_strays(store, batch)
-    refuse_by_quotas(store, batch, sites)
-    held = store_lines.hold_sessions(
-        store, {key: sites[key[0]] for key in batch.sessions if key[0] in sites}, warm
-    )
+    refuse_by_quotas(store, batch, plan)
+    held = hold_sessions(store, batch, plan, warm)
     deeds = find_done(store, batch)
     batch.answers |= deeds
-    works = make_works(store, batch, held, deeds)
+    works = make_works(batch, plan, held, deeds)
     writer, kept = Writer(store), dict[Key, Kept]()
     for key, work, done in work_on(works, pool, foreseen):
         take_answers(store, batch, work, done, held[key], deeds)
@@ -279,20 +277,71 @@ def write_batch(
     write_decided(store, batch)
     write_strays(store, batch)
     write_mended(store, batch)
-    write_levels(store, batch, sites)
+    write_levels(store, batch, plan.sites)
     return kept
 
 
+class Plan(NamedTuple):
+    """What the plan has of a batch: the sites of its stations, the powers of stations that have one of their own, the
+    rules and quotas of sites, and those of its transactions that are known to be stored."""
+
+    sites: dict[str, str]
+    powers: dict[str, int]
+    rules: dict[str, Rules]
+    quotas: dict[str, Quota]
+    stored: Collection[Key]
+
+
+def hold_plan(store: Database, batch: Batch, warm: Warm | None = None) -> Plan:
+    """What the plan has of a batch, which does not change up to the end of the database transaction."""
+    keys = sorted(batch.sessions)
+    stations = sorted({key[0] for key in keys} | {one.station for one in batch.others})
+    known = warm.sites if warm else {}
+    held = {site for station in stations for site in known.get(station, ())}
+    while True:
+        lock_sites(store, list(held), False)
+        planned, stored = store_lines.find_plan(store, stations, keys)
+        needed = {row.site for row in planned.values()} | {*stored.values()}
+        if needed <= held or store.kind == "sqlite":
+            break
+        held |= needed
+    for station, row in planned.items():
+        known[station] = {row.site}
+    for (station, _), site in stored.items():
+        known.setdefault(station, set()).add(site)
+    return make_plan(store, planned, needed, stored)
+
+
+def make_plan(
+    store: Database, planned: Mapping[str, Row], sites: Iterable[str], stored: Collection[Key] = ()
+) -> Plan:
+    """What the plan has of these stations and sites."""
+    rows = store_lines.find_rules(store, sites)
+    return Plan(
+        {station: row.site for station, row in planned.items()},
+        {station: row.most_kw for station, row in planned.items() if row.most_kw},
+        {site: read_rules(row) for site, row in rows.items()},
+        read_quotas(rows.values()),
+        stored,
+    )
+
+
+def hold_sessions(
+    store: Database, batch: Batch, plan: Plan, warm: Warm | None = None
+) -> dict[Key, Held]:
+    """Holds the transactions of a batch, and gives what is stored of them."""
+    sites = {key: plan.sites[key[0]] for key in batch.sessions if key[0] in plan.sites}
+    return store_lines.hold_sessions(store, sites, warm, plan.stored)
+
+
 def make_works(
-    store: Database, batch: Batch, held: dict[Key, Held], deeds: dict[int, Answer]
+    batch: Batch, plan: Plan, held: dict[Key, Held], deeds: dict[int, Answer]
 ) -> dict[Key, Work]:
     """The works of transactions that are held."""
-    rules = find_all_rules(store, {one.site for one in held.values()})
-    powers = find_powers(store, held)
     works = dict[Key, Work]()
     for key, one in held.items():
         new = list_new(batch, batch.sessions[key], deeds)
-        own = own_rules(rules[one.site], one.own_order, powers.get(key[0]))
+        own = own_rules(plan.rules[one.site], one.own_order, plan.powers.get(key[0]))
         course: Course | None = one.kept.course if one.kept else None
         if course is not None and course.rules != own:
             # All rows were computed again meanwhile.
@@ -302,34 +351,13 @@ def make_works(
     return works
 
 
-def find_powers(store: Database, keys: Iterable[Key]) -> dict[str, int]:
-    """The powers of those of the stations of transactions that have one of their own."""
-    rows = store_lines.find_stations(store, sorted({key[0] for key in keys}))
-    return {station: row.most_kw for station, row in rows.items() if row.most_kw}
-
-
 def foresee(store: Database, batch: Batch) -> Foreseen:
     """What will become of a batch's transactions, if nobody changes them meanwhile."""
     with store.snapshot():
-        sites = store_lines.find_sites(store, sorted({key[0] for key in batch.sessions}))
-        known = {key: sites[key[0]] for key in batch.sessions if key[0] in sites}
-        works = make_works(
-            store, batch, store_lines.hold_sessions(store, known), find_done(store, batch)
-        )
+        plan = hold_plan(store, batch)
+        held = hold_sessions(store, batch, plan)
+        works = make_works(batch, plan, held, find_done(store, batch))
     return {key: (work, done) for key, work, done in work_on(works, None)}
-
-
-def hold_sites(store: Database, batch: Batch) -> dict[str, str]:
-    """The sites of the batch's stations; their plan does not change up to the end of the database transaction."""
-    stations = sorted({key[0] for key in batch.sessions} | {one.station for one in batch.others})
-    while True:
-        sites = store_lines.find_sites(store, stations)
-        if store.kind != "postgresql":
-            return sites
-        known = store_lines.find_session_sites(store, list(batch.sessions))
-        lock_sites(store, [*sites.values(), *known.values()], False)
-        if store_lines.find_sites(store, stations) == sites:
-            return sites
 
 
 def leave_strays(batch: Batch, sites: dict[str, str]) -> None:
@@ -360,10 +388,9 @@ def refuse_strays(store: Database, batch: Batch) -> None:
     batch.strays = [one for one, key in zip(batch.strays, texts) if key not in above]
 
 
-def refuse_by_quotas(store: Database, batch: Batch, sites: dict[str, str]) -> None:
+def refuse_by_quotas(store: Database, batch: Batch, plan: Plan) -> None:
     """Answers messages that are above a quota of their site, which change nothing."""
-    quotas = find_quotas(store, sorted(set(sites.values())))
-    if not quotas:
+    if not plan.quotas:
         return
     asking = [
         Asking(place, one, key)
@@ -375,10 +402,10 @@ def refuse_by_quotas(store: Database, batch: Batch, sites: dict[str, str]) -> No
     asking += [
         Asking(place, one, None)
         for place, one in enumerate(batch.asked)
-        if id(one) in values and isinstance(one, Message) and one.station in sites
+        if id(one) in values and isinstance(one, Message) and one.station in plan.sites
     ]
     asking.sort(key=attrgetter("place"))
-    for place, name in find_refused(store, asking, sites, quotas).items():
+    for place, name in find_refused(store, asking, plan.sites, plan.quotas).items():
         one = batch.asked[place]
         assert isinstance(one, Message)
         key = (one.station, batch.wishes[place].text)
@@ -398,17 +425,6 @@ def refuse_message(batch: Batch, place: int, name: str) -> None:
     refusal = describe_message(one.text, name, one.received)
     batch.refusals.append((one, refusal, refusal.sent_id.lower()))
     batch.answers[place] = Answer("refused", name, write_reply(one.text, name))
-
-
-def find_all_rules(store: Database, sites: Iterable[str]) -> dict[str, Rules]:
-    """The rules of sites."""
-    asked = f"select site, {RULES_COLUMNS} from site where site"
-    if store.kind == "postgresql":
-        rows = store.fetch(f"{asked} = any(:sites)", sites=sorted(sites))
-    else:
-        some = store.fetch_each(f"{asked} = :site", [{"site": site} for site in sorted(sites)])
-        rows = [row for one in some for row in one]
-    return {row.site: read_rules(row) for row in rows}
 
 
 def list_conflicts(key: Key, held: Held) -> list[str]:
@@ -693,7 +709,7 @@ def change_site(
     with store.transaction():
         if not write_site(store, site, rules, author, where):
             return 0
-        return compute_again(store, site, rules)
+        return compute_again(store, site)
 
 
 def change_power(
@@ -711,8 +727,8 @@ def change_power(
                 renew_sessions(store, dict([*sites.items()][start : start + SESSIONS_AT_ONCE]))
 
 
-def compute_again(store: Database, site: str, rules: Rules) -> int:
-    """Computes the rows of a site's transactions by these rules, within a database transaction that holds its plan."""
+def compute_again(store: Database, site: str) -> int:
+    """Computes the rows of a site's transactions again, within a database transaction that holds its plan."""
     count, after = 0, ("", "")
     asked = """select station, transaction_id from session where site = :site and (station > :station
     or station = :station and transaction_id > :transaction) order by station, transaction_id limit :most"""
@@ -723,20 +739,18 @@ def compute_again(store: Database, site: str, rules: Rules) -> int:
         if not rows:
             return count
         keys = [(row.station, row.transaction_id) for row in rows]
-        renew_sessions(store, dict.fromkeys(keys, site), {site: rules})
+        renew_sessions(store, dict.fromkeys(keys, site))
         count, after = count + len(keys), keys[-1]
 
 
-def renew_sessions(
-    store: Database, sites: dict[Key, str], rules: dict[str, Rules] | None = None
-) -> None:
+def renew_sessions(store: Database, sites: dict[Key, str]) -> None:
     """Computes the rows of transactions again, within a database transaction. `sites`: those of the transactions."""
-    rules = rules or find_all_rules(store, set(sites.values()))
+    planned = store_lines.find_stations(store, sorted({key[0] for key in sites}))
+    plan = make_plan(store, planned, set(sites.values()))
     held = store_lines.hold_sessions(store, sites)
-    powers = find_powers(store, held)
     works = {}
     for key, one in held.items():
-        own = own_rules(rules[one.site], one.own_order, powers.get(key[0]))
+        own = own_rules(plan.rules[one.site], one.own_order, plan.powers.get(key[0]))
         works[key] = Work(*key, one.site, own, one.lines, [], list_conflicts(key, one), True)
     writer = Writer(store)
     for key, work, done in work_on(works, None):

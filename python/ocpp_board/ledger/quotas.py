@@ -5,7 +5,7 @@ may keep is in the site's rules; messages a second are counted by the gateway th
 """
 
 import json
-from collections.abc import Mapping, Sequence
+from collections.abc import Iterable, Mapping, Sequence
 from datetime import datetime, timezone
 from typing import NamedTuple
 
@@ -36,15 +36,13 @@ class Asking(NamedTuple):
     key: Key | None
 
 
-def find_quotas(store: Database, sites: Sequence[str]) -> dict[str, Quota]:
+def read_quotas(rows: Iterable[Row]) -> dict[str, Quota]:
     """The quotas of those of these sites that have some."""
-    asked = "select site, most_open, most_bytes from site where (most_open > 0 or most_bytes > 0) and site"
-    if store.kind == "postgresql":
-        rows: list[Row] = store.fetch(f"{asked} = any(:sites)", sites=list(sites))
-    else:
-        some = store.fetch_each(f"{asked} = :site", [{"site": site} for site in sites])
-        rows = [row for one in some for row in one]
-    return {row.site: Quota(row.most_open, row.most_bytes) for row in rows}
+    return {
+        row.site: Quota(row.most_open, row.most_bytes)
+        for row in rows
+        if row.most_open or row.most_bytes
+    }
 
 
 def find_refused(

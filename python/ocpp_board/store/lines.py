@@ -2,7 +2,7 @@
 
 import json
 from collections import OrderedDict
-from collections.abc import Iterable, Iterator, Sequence
+from collections.abc import Collection, Iterable, Iterator, Mapping, Sequence
 from dataclasses import dataclass, field
 from datetime import datetime, timezone
 from typing import Any, NamedTuple
@@ -10,6 +10,7 @@ from typing import Any, NamedTuple
 from ocpp_board.errors import StoreError
 from ocpp_board.records import LeftOut, Line
 from ocpp_board.store.database import Database, Row, SqliteDatabase, choose
+from ocpp_board.store.plan import RULES_COLUMNS
 
 SESSION = """lines evse events voided first_number last_number complete missing gaps up down export_up export_down state
 began ended first_at last_at first_register last_register first_export_register last_export_register stopped_reason
@@ -157,25 +158,55 @@ def list_stations(keys: Iterable[Key]) -> list[str]:
     return sorted({key[0] for key in keys})
 
 
-def find_session_sites(store: Database, keys: Sequence[Key]) -> dict[Key, str]:
-    """The sites of those of these transactions that are stored."""
-    found = fetch_keyed(store, "site", "session", keys)
-    return {key: rows[0].site for key, rows in zip(keys, found) if rows}
+def find_plan(
+    store: Database, stations: Sequence[str], keys: Sequence[Key]
+) -> tuple[dict[str, Row], dict[Key, str]]:
+    """Those of these stations that are planned, and the sites of those of these transactions that are stored."""
+    if store.kind == "sqlite":
+        found = zip(keys, fetch_keyed(store, "site", "session", keys))
+        return find_stations(store, stations), {key: rows[0].site for key, rows in found if rows}
+    rows = store.fetch(
+        """select station, '' as transaction_id, site, most_kw from station where station = any(:stations)
+        union all
+        select t.* from json_to_recordset(:keys) as k (s text, t text) cross join lateral (
+            select station, transaction_id, site, cast(null as int) from session
+            where station = k.s and transaction_id = k.t and station = any(:stations)) t""",
+        keys=write_keys(keys),
+        stations=list(stations),
+    )
+    planned = {row.station: row for row in rows if not row.transaction_id}
+    stored = {(row.station, row.transaction_id): row.site for row in rows if row.transaction_id}
+    return planned, stored
+
+
+def find_rules(store: Database, sites: Iterable[str]) -> dict[str, Row]:
+    """The rules and quotas of sites."""
+    asked = f"select site, {RULES_COLUMNS}, most_open, most_bytes from site where site"
+    if store.kind == "postgresql":
+        rows = store.fetch(f"{asked} = any(:sites)", sites=sorted(sites))
+    else:
+        some = store.fetch_each(f"{asked} = :site", [{"site": site} for site in sorted(sites)])
+        rows = [row for one in some for row in one]
+    return {row.site: row for row in rows}
 
 
 def hold_sessions(
-    store: Database, sites: dict[Key, str], warm: "Warm | None" = None
+    store: Database,
+    sites: dict[Key, str],
+    warm: "Warm | None" = None,
+    stored: Collection[Key] = (),
 ) -> dict[Key, Held]:
     """Holds transactions up to the end of the database transaction, in the order of their keys, and gives what is
-    stored of them. `sites`: those of the ones that are not stored; `warm`: what this process stored last.
-    """
+    stored of them. `sites`: those of the ones that are not stored; `warm`: what this process stored last; `stored`:
+    transactions that are known to be stored."""
     keys = sorted(sites)
-    if store.kind == "postgresql" and keys:
+    new = [key for key in keys if key not in stored]
+    if store.kind == "postgresql" and new:
         store.execute(
             """insert into session (station, transaction_id, site) select s, t, site
             from json_to_recordset(:keys) as k (s text, t text, site text)
             on conflict (station, transaction_id) do nothing""",
-            keys=json.dumps([{"s": key[0], "t": key[1], "site": sites[key]} for key in keys]),
+            keys=json.dumps([{"s": key[0], "t": key[1], "site": sites[key]} for key in new]),
         )
     lock = "for update" if store.kind == "postgresql" else ""
     had = fetch_keyed(store, "site, lines, changed_at, own_order", "session", keys, lock)
@@ -184,8 +215,8 @@ def hold_sessions(
         for key, rows in zip(keys, had)
         if rows and warm and (one := warm.take(key, rows[0].lines, rows[0].changed_at))
     }
-    stored = [key for key, rows in zip(keys, had) if rows and rows[0].lines and key not in kept]
-    lines = dict(zip(stored, read_lines(store, stored)))
+    unread = [key for key, rows in zip(keys, had) if rows and rows[0].lines and key not in kept]
+    lines = dict(zip(unread, read_lines(store, unread)))
     refusals = dict(zip(keys, read_refusals(store, keys)))
     found = dict[Key, Held]()
     for key, rows in zip(keys, had):
@@ -247,6 +278,8 @@ class Warm:
         """`most`: about how many bytes are kept."""
         self.most, self.size = most, 0
         self.kept = OrderedDict[Key, tuple[Kept, int]]()
+        # The sites that stations needed last.
+        self.sites = dict[str, set[str]]()
 
     def take(self, key: Key, lines: int, changed_at: datetime | None) -> Kept | None:
         """Takes out what is kept of a transaction; none where something else is stored."""
@@ -285,8 +318,83 @@ class Written(NamedTuple):
     course: Any
 
 
+class Change(NamedTuple):
+    """Rows of a table that are to be written: deleted by their keys, or inserted; where they are there, they fail if no
+    keys are named, and else their other columns are written. `compared`: those of which one has to differ for that.
+    """
+
+    table: str
+    columns: Sequence[str]
+    rows: Sequence[Values]
+    keys: Sequence[str] = ()
+    compared: Sequence[str] = ()
+    is_deletion: bool = False
+
+    def write_conflict(self) -> str:
+        """What becomes of rows that are there."""
+        if not self.keys:
+            return ""
+        names = [name for name in self.columns if name not in self.keys]
+        changes = ", ".join(f"{name} = excluded.{name}" for name in names)
+        text = f"on conflict ({', '.join(self.keys)}) do update set {changes}"
+        if self.compared:
+            had, has = (
+                ", ".join(f"{of}.{name}" for name in self.compared)
+                for of in (self.table, "excluded")
+            )
+            text += f" where ({had}) is distinct from ({has})"
+        return text
+
+    def write_sqlite(self) -> str:
+        """The statement for a row."""
+        if self.is_deletion:
+            where = " and ".join(f"{name} = ?" for name in self.keys)
+            return f"delete from {self.table} where {where}"
+        names, marks = ", ".join(self.columns), ", ".join("?" * len(self.columns))
+        return f"insert into {self.table} ({names}) values ({marks}) {self.write_conflict()}"
+
+    def write_postgresql(self, rows: str) -> str:
+        """The statement for all rows, which are the JSON of a value with this name."""
+        if self.is_deletion:
+            where = " and ".join(f"t.{name} = r.{name}" for name in self.keys)
+            return f"""delete from {self.table} t using {self.write_source(rows)}
+            where {where} and t.station = any(:stations)"""
+        names = ", ".join(self.columns)
+        return f"""insert into {self.table} ({names}) select {names} from {self.write_source(rows)}
+        {self.write_conflict()}"""
+
+    def write_source(self, rows: str) -> str:
+        """The rows as a table."""
+        if self.table == "line":
+            # PostgreSQL has a type `line` of its own, so the table's can't be named here.
+            return f"""json_to_recordset(:{rows}) as r (station text, transaction_id text, number int,
+            received timestamptz, line text, who text, origin text, why text)"""
+        return f"json_populate_recordset(null::{self.table}, :{rows}) as r"
+
+
+def run_changes(store: Database, changes: Sequence[Change]) -> None:
+    """Writes changes: in PostgreSQL by one statement."""
+    changes = [one for one in changes if one.rows]
+    if isinstance(store, SqliteDatabase):
+        for one in changes:
+            store.execute_rows(one.write_sqlite(), one.rows)
+    elif changes:
+        names = [f"rows_{number}" for number in range(len(changes))]
+        *others, last = [one.write_postgresql(name) for one, name in zip(changes, names)]
+        front = ", ".join(f"change_{number} as ({text})" for number, text in enumerate(others))
+        values: dict[str, Any] = {
+            name: json.dumps(
+                [dict(zip(one.columns, row)) for row in one.rows], default=datetime.isoformat
+            )
+            for one, name in zip(changes, names)
+        }
+        if any(one.is_deletion for one in changes):
+            values["stations"] = list_stations((row[0], "") for one in changes for row in one.rows)
+        store.execute(f"with {front} {last}" if front else last, **values)
+
+
 class Writer:
-    """Collects what changed of transactions, and writes it, each table by one statement in PostgreSQL."""
+    """Collects what changed of transactions, and writes it."""
 
     def __init__(self, store: Database) -> None:
         self.store, self.at = store, datetime.now(timezone.utc)
@@ -314,25 +422,41 @@ class Writer:
     def write(self) -> None:
         """Writes what was collected."""
         lines = [(*key, *line) for key, one in self.rows.items() for line in one.accepted]
-        insert_rows(self.store, "line", LINE, lines)
         sessions = [
             (*key, one.held.site, self.at, *clean_session(one.session))
             for key, one in self.rows.items()
         ]
         columns = [*KEYS, "site", "changed_at", *SESSION]
-        write_rows(self.store, "session", columns, KEYS, sessions, compared=SESSION)
-        unknown = sorted(key for key, one in self.rows.items() if one.held.kept is None)
-        parts = {key: one.parts for key, one in self.rows.items()}
-        findings = {key: one.findings for key, one in self.rows.items()}
-        for table, columns, rows in (("part", PART, parts), ("finding", FINDING, findings)):
-            before = dict(zip(unknown, read_by_first(self.store, table, columns, unknown)))
-            for key, one in self.rows.items():
-                if kept := one.held.kept:
-                    before[key] = kept.parts if table == "part" else kept.findings
-            write_differences(self.store, table, columns, before, rows)
+        before = self.find_before()
+        run_changes(
+            self.store,
+            [
+                Change("line", LINE, lines),
+                Change("session", columns, sessions, KEYS, SESSION),
+                *list_differences(
+                    "part",
+                    PART,
+                    {key: (before[key].parts, one.parts) for key, one in self.rows.items()},
+                ),
+                *list_differences(
+                    "finding",
+                    FINDING,
+                    {key: (before[key].findings, one.findings) for key, one in self.rows.items()},
+                ),
+            ],
+        )
         if self.empty:
             delete_each(self.store, "session", self.empty)
         self.rows, self.empty = {}, []
+
+    def find_before(self) -> dict[Key, Kept]:
+        """What is stored of the transactions that were collected: read where it is not known."""
+        known = {key: one.held.kept for key, one in self.rows.items() if one.held.kept}
+        unknown = sorted(self.rows.keys() - known.keys())
+        parts = read_by_first(self.store, "part", PART, unknown)
+        findings = read_by_first(self.store, "finding", FINDING, unknown)
+        read = zip(unknown, parts, findings)
+        return known | {key: Kept(parts=some, findings=others) for key, some, others in read}
 
 
 def read_by_first(
@@ -342,6 +466,23 @@ def read_by_first(
     for rows in fetch_keyed(store, ", ".join(columns), table, keys):
         values = [tuple(getattr(row, name) for name in columns) for row in rows]
         yield {one[0]: one for one in values}
+
+
+def list_differences(
+    table: str,
+    columns: Sequence[str],
+    rows: Mapping[Key, tuple[dict[Any, Values], Sequence[Values]]],
+) -> Iterator[Change]:
+    """What to change of `part` or `finding`, by the rows of transactions before and after: those that are not there or
+    differ are written, others go."""
+    keys = [*KEYS, columns[0]]
+    more, gone = list[Values](), list[Values]()
+    for key, (had, has) in rows.items():
+        more += [(*key, *one) for one in has if had.get(one[0]) != one]
+        if had:
+            gone += [(*key, first) for first in had.keys() - {one[0] for one in has}]
+    yield Change(table, keys, gone, keys, is_deletion=True)
+    yield Change(table, [*KEYS, *columns], more, keys)
 
 
 def clean_session(session: Values) -> Values:
@@ -354,87 +495,6 @@ def clean_session(session: Values) -> Values:
 def clean_text(text: str) -> str:
     """A text as both databases keep it: without the character 0, and without half a surrogate pair."""
     return text.replace("\0", "\ufffd").encode("utf-8", "replace").decode()
-
-
-def write_json(columns: Sequence[str], rows: Iterable[Values]) -> str:
-    """Rows as the JSON of a table."""
-    return json.dumps([dict(zip(columns, row)) for row in rows], default=datetime.isoformat)
-
-
-def insert_rows(
-    store: Database, table: str, columns: Sequence[str], rows: Sequence[Values], more: str = ""
-) -> None:
-    """Inserts rows, each with the values of these columns; without `more` one that is there fails."""
-    if not rows:
-        return
-    names, marks = ", ".join(columns), ", ".join("?" * len(columns))
-    if isinstance(store, SqliteDatabase):
-        store.execute_rows(f"insert into {table} ({names}) values ({marks}) {more}", rows)
-    elif table == "line":
-        # PostgreSQL has a type `line` of its own, so the table's can't be named here.
-        store.execute(
-            f"""insert into line ({names}) select {names} from json_to_recordset(:rows) as r (station text,
-            transaction_id text, number int, received timestamptz, line text, who text, origin text, why text)""",
-            rows=write_json(columns, rows),
-        )
-    else:
-        store.execute(
-            f"""insert into {table} ({names}) select {names} from json_populate_recordset(null::{table}, :rows)
-            {more}""",
-            rows=write_json(columns, rows),
-        )
-
-
-def write_rows(
-    store: Database,
-    table: str,
-    columns: Sequence[str],
-    keys: Sequence[str],
-    rows: Sequence[Values],
-    compared: Sequence[str] = (),
-) -> None:
-    """Inserts rows, or writes their columns beside the keys where they are there. `compared`: the columns of which one
-    has to differ for that."""
-    changes = ", ".join(f"{name} = excluded.{name}" for name in columns if name not in keys)
-    more = f"on conflict ({', '.join(keys)}) do update set {changes}"
-    if compared:
-        had, has = (", ".join(f"{of}.{name}" for name in compared) for of in (table, "excluded"))
-        more += f" where ({had}) is distinct from ({has})"
-    insert_rows(store, table, columns, rows, more)
-
-
-def write_differences(
-    store: Database,
-    table: str,
-    columns: Sequence[str],
-    before: dict[Key, dict[Any, Values]],
-    own: dict[Key, Sequence[Values]],
-) -> None:
-    """Writes the rows of transactions in `part` or `finding`: those that are not there or differ; others go."""
-    keys = [*KEYS, columns[0]]
-    more, gone = list[Values](), list[Values]()
-    for key, rows in own.items():
-        had = before[key]
-        more += [(*key, *one) for one in rows if had.get(one[0]) != one]
-        gone += [(*key, first) for first in had.keys() - {one[0] for one in rows}]
-    if gone:
-        delete_rows(store, table, keys, gone)
-    write_rows(store, table, [*KEYS, *columns], keys, more)
-
-
-def delete_rows(store: Database, table: str, keys: Sequence[str], rows: Sequence[Values]) -> None:
-    """Deletes the rows with these keys."""
-    if isinstance(store, SqliteDatabase):
-        where = " and ".join(f"{name} = ?" for name in keys)
-        store.execute_rows(f"delete from {table} where {where}", rows)
-        return
-    where = " and ".join(f"t.{name} = g.{name}" for name in keys)
-    store.execute(
-        f"""delete from {table} t using json_populate_recordset(null::{table}, :rows) g
-        where {where} and t.station = any(:stations)""",
-        rows=write_json(keys, rows),
-        stations=list_stations((row[0], row[1]) for row in rows),
-    )
 
 
 def delete_each(store: Database, table: str, keys: Sequence[Key]) -> None:
