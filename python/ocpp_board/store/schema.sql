@@ -137,6 +137,10 @@ create table session (
     first_boundary_at timestamptz,              -- and the first of these
     received_until timestamptz,
     changed_at timestamptz,
+    energy_measured text not null default 'no', -- whether readings say its energy: yes, part, no
+    first_reading_at timestamptz,
+    last_reading_at timestamptz,
+    peak_w bigint not null default 0,           -- the greatest power between two readings, in W
     own_order text not null default '' check (own_order in ('', 'sequence', 'moment')),  -- where it is not the site's
     primary key (station, transaction_id)
 ) /*postgresql partition by hash (station)*/;
