@@ -30,19 +30,19 @@ def find_port() -> int:
         return int(one.getsockname()[1])
 
 
-def make_folder(is_durable: bool) -> Path:
+def make_folder(name: str, is_durable: bool = True) -> Path:
     """A folder for a server's files: on a disk, or in memory where what is committed needn't be on one. A database of a
     store has a thousand files, and a busy disk takes minutes to remove those of many tests."""
     is_roomy = MEMORY.is_dir() and shutil.disk_usage(MEMORY).free > ROOM
     place = None if is_durable or not is_roomy else MEMORY
-    return Path(tempfile.mkdtemp(prefix="ocpp_board_postgres_", dir=place))
+    return Path(tempfile.mkdtemp(prefix=f"ocpp_board_{name}_", dir=place))
 
 
 class Cluster:
     """A server of PostgreSQL in a folder of its own, run by a user that is not root."""
 
     def __init__(self, folder: Path | None = None, is_durable: bool = True) -> None:
-        self.folder = folder or make_folder(is_durable)
+        self.folder = folder or make_folder("postgres", is_durable)
         self.port, self.is_durable = find_port(), is_durable
         self.process: subprocess.Popen[bytes] | None = None
         self.user = pwd.getpwnam("postgres") if os.getuid() == 0 else pwd.getpwuid(os.getuid())
