@@ -225,7 +225,7 @@ class FollowedLog:
             read = self.reader.read(bare)
         except Refused as why:
             untaken = self.reader.make_untaken(why, bare, 0)
-            records.append(replace(untaken, origin=f"{self.path}, byte {at}"))
+            records.append(untaken._replace(origin=f"{self.path}, byte {at}"))
             if why.kind not in self.reported:
                 self.reported.add(why.kind)
                 log.warning("%s: %s", self.path, why)
@@ -233,7 +233,7 @@ class FollowedLog:
         if read.note:
             self.report(f"{self.path}: {read.note}")
         for message in read.messages:
-            records.append(replace(message, origin=f"{self.path}, byte {at}"))
+            records.append(message._replace(origin=f"{self.path}, byte {at}"))
         if entry := self.reader.entry:
             moment = f" at {shown(entry.time)[1:-1]}" if entry.time else ""
             self.last = f"{shown(entry.station)[1:-1]}{moment}"

@@ -28,11 +28,11 @@ from typing import Any
 from ocpp_board.commands.ahead import run_ahead
 from ocpp_board.commands.loading import Loader, Wanted
 from ocpp_board.commands.options import add_log_options, add_store, choose_program
-from ocpp_board.commands.reading import BatchReader, Meter, ReadOptions
+from ocpp_board.commands.reading import Batch, BatchReader, Meter, ReadOptions
 from ocpp_board.errors import InputError
 from ocpp_board.ledger.settlers import Settlers
 from ocpp_board.ledger.verify import verify
-from ocpp_board.processes import leave_interrupts
+from ocpp_board.processes import leave_interrupts, pause_collector
 from ocpp_board.sources import forms
 from ocpp_board.sources.forms import Shape, choose_shape
 from ocpp_board.sources.stations import add_sites, choose_plan
@@ -178,14 +178,19 @@ class Report:
         options = self.options
         asked = ReadOptions(options.shape, options.wanted.plan, options.is_utc, options.is_script)
         reader = BatchReader(asked, options.logs, self.loader.site_of)
-        for batch in reader.read():
-            self.lines += batch.lines
-            self.untaken += batch.untaken
-            self.loader.plan(batch.site_of, batch.rules)
-            self.loader.note_left_out(batch.left_out)
-            if batch.records:
-                self.loader.submit(batch.records)
+        with pause_collector():
+            for batch in reader.read():
+                self.take(batch)
         self.loader.finish()
+
+    def take(self, batch: Batch) -> None:
+        """Takes what was read at once. Raises OcppBoardError."""
+        self.lines += batch.lines
+        self.untaken += batch.untaken
+        self.loader.plan(batch.site_of, batch.rules)
+        self.loader.note_left_out(batch.left_out)
+        if batch.records:
+            self.loader.submit(batch.records)
 
     def describe(self) -> str:
         """What became of all lines, in words."""

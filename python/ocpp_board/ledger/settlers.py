@@ -10,7 +10,7 @@ from typing import Any
 from zlib import crc32
 
 from ocpp_board.ledger.engine import settle
-from ocpp_board.processes import leave_interrupts
+from ocpp_board.processes import leave_interrupts, pause_collector
 from ocpp_board.records import Asked, Deed, Message, Untaken
 from ocpp_board.store.database import Database, open_store
 
@@ -35,8 +35,10 @@ def open_settler(name: str, is_durable: bool, guard: Lock) -> None:
 
 def settle_own(packed: Packed) -> Counter[str]:
     """Settles what is of the stations of this process, and counts the outcomes."""
-    asked = [KINDS[place]._make(values) for place, values in packed]
-    return Counter(one.outcome for one in settle(Settler.store, asked, guard=Settler.guard))
+    with pause_collector():
+        asked = [KINDS[place]._make(values) for place, values in packed]
+        answers = settle(Settler.store, asked, guard=Settler.guard)
+        return Counter(one.outcome for one in answers)
 
 
 class Pending:

@@ -6,7 +6,7 @@ from collections.abc import Iterator
 from typing import Any, NamedTuple
 
 B = r"[ \t\r\n]*"
-TEXT = r'"((?:[^"\\]|\\.)*+)"'
+TEXT = r'"((?:[^"\\]++|\\.)*+)"'
 BLANKS = re.compile(B)
 ANSWER = re.compile(rf"{B}\[{B}[34]{B}[,\]]")
 # Frames of OCPP 2.1 that have no answer: CALLRESULTERROR and SEND.

@@ -96,6 +96,9 @@ def find_text(of: Members, field: str) -> str:
 
 def require_text(entry: dict[str, Any], field: str, what: str = "") -> str:
     """A member that has to be a text. Raises Refused where it is not. `what`: of what it is the field."""
+    value = entry.get(field)
+    if isinstance(value, str):
+        return value
     value = find_member(entry, field)
     if isinstance(value, str):
         return value
@@ -291,7 +294,7 @@ class CitrineCsvForm:
         if cells == self.heads:
             return None  # Another file of the same columns begins.
         if len(cells) != len(self.heads):
-            raise Refused("a row has not as many cells as the first line", str(len(cells)))
+            raise Refused("a row has more or fewer cells than the first line", str(len(cells)))
         return CitrineForm.read_row(Members(dict(zip(self.heads, cells)), {}))
 
 

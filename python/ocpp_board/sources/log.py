@@ -2,6 +2,7 @@
 
 import re
 from datetime import datetime, timezone
+from functools import lru_cache
 from typing import NamedTuple
 
 from ocpp_board.escapes import shown
@@ -29,6 +30,8 @@ PLAIN = re.compile(
     r"20[0-9]{2}-[0-9]{2}-[0-9]{2}T(?:[01][0-9]|2[0-3]):[0-5][0-9]:[0-5][0-9](?:\.[0-9]+)?Z"
 )
 SECONDS = len("2026-03-01T10:00:00")
+# Times that have their moments kept, since many lines come in a second.
+KEPT_MOMENTS = 1_024
 # Bytes that a character has at most, and what is before a message in the line of a script.
 MOST_BYTES, FRONT = 4, len("deliver  ") + 48
 # The version of messages of actions that only OCPP 1.6 has, and characters of a version that are kept.
@@ -77,6 +80,7 @@ def read_epoch(digits: str, part: str | None) -> datetime:
     return datetime.fromtimestamp(seconds, timezone.utc)
 
 
+@lru_cache(KEPT_MOMENTS)
 def read_moment(text: str, is_utc: bool) -> datetime:
     """The moment of a time in whole seconds. `is_utc`: one without an offset is UTC.
 
@@ -177,21 +181,21 @@ class LogReader:
             self.plan.admit(site, station)
             return ANSWERS if is_answered else SENT
         needs_time = call is not None and has_moment(call[2])
-        found = Mended((entry.message,))
+        moment, note = self.find_moment(entry)
         if site in self.mender.mends:
-            received, _ = self.find_moment(entry)
-            found = self.mender.mend(site, station, entry.message, received)
-        texts, mends = [check_text(station, text) for text in found.texts], ",".join(found.faults)
+            found = self.mender.mend(site, station, entry.message, moment)
+        else:
+            found = Mended((entry.message,))
+        texts = [check_text(station, text) for text in found.texts]
         self.plan.admit(site, station)
-        moment, note = (None, None)
-        if needs_time or self.has_times:
-            moment, note = self.find_moment(entry)
-        origin = f"{self.name}:{number}"
-        came = entry.message if mends else ""
-        first, *more = (
-            Message(station, text, moment, origin, site or None, mends, came) for text in texts
-        )
-        return Read("messages", first, needs_time, note, tuple(more))
+        if not needs_time and not self.has_times:
+            moment = note = None
+        first = Message(station, texts[0], moment, f"{self.name}:{number}", site or None)
+        if not found.faults:
+            return Read("messages", first, needs_time, note)
+        mended = first._replace(mends=",".join(found.faults), came=entry.message)
+        more = tuple(mended._replace(text=text) for text in texts[1:])
+        return Read("messages", mended, needs_time, note, more)
 
     def note_left_out(self, entry: Entry) -> None:
         """Notes a station whose message is left out for its version."""

@@ -10,7 +10,7 @@ from string import ascii_lowercase
 from typing import Any
 
 from ocpp_board.energies import Flow
-from ocpp_board.store.database import Database
+from ocpp_board.store.database import Database, count_days
 from ocpp_board.writers.pages.facts import (
     AnsweredDeed,
     Closing,
@@ -249,9 +249,8 @@ class Reader:
 
     def last_moment(self, site: str, station: str | None = None) -> datetime | None:
         """The last moment of the sessions of a site or of a station."""
-        rows = self.read_of(
-            "select max(last_at) as last_at from session where site = :site", site, station, ""
-        )
+        sql = "select last_at from session where site = :site and last_day is not null"
+        rows = self.read_of(sql, site, station, " order by last_day desc, last_at desc limit 1")
         return rows[0][0] if rows else None
 
     # Sessions ---------------------------------------------------------------------------------------------------------
@@ -267,10 +266,12 @@ class Reader:
     ) -> list[SessionFacts]:
         """The sessions that ran between two moments, by their beginnings."""
         sql = (
-            f"select {SESSION} from session where site = :site and last_at >= :begin "
-            "and last_at < :latest and first_at < :end"
+            f"select {SESSION} from session where site = :site and last_day >= :first and last_day <= :last "
+            "and last_at >= :begin and last_at < :latest and first_at < :end"
         )
-        values = {"begin": begin, "end": end, "latest": end + LONGEST}
+        latest = end + LONGEST
+        values: dict[str, Any] = {"begin": begin, "end": end, "latest": latest}
+        values |= {"first": count_days(begin), "last": count_days(latest)}
         end_of = " order by first_at, station, transaction_id"
         rows = self.read_of(sql, site, station, end_of, **values)
         return [make_session(row) for row in rows]
@@ -413,9 +414,10 @@ class Reader:
             "select count(*) as transactions, sum(case when complete then 1 else 0 end) as completed, "
             "sum(events) as events, sum(voided) as voided, sum(missing) as missing, sum(up) as up, "
             "sum(down) as down, sum(export_up) as export_up, sum(export_down) as export_down "
-            "from session where site = :site and last_at > :since and events > 0",
+            "from session where site = :site and last_day >= :day and last_at > :since and events > 0",
             site=site,
             since=since,
+            day=count_days(since),
         )
         return make_totals(rows[0])
 
