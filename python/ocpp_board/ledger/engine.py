@@ -6,7 +6,7 @@ answer is given only after the commit. A failure gives none, and the same may co
 """
 
 import re
-from collections.abc import Callable, Collection, Iterable, Iterator, Mapping, Sequence
+from collections.abc import Callable, Iterable, Iterator, Mapping, Sequence
 from contextlib import AbstractContextManager, nullcontext
 from dataclasses import dataclass, field
 from datetime import datetime, timezone
@@ -283,37 +283,38 @@ def write_batch(
 
 class Plan(NamedTuple):
     """What the plan has of a batch: the sites of its stations, the powers of stations that have one of their own, the
-    rules and quotas of sites, and those of its transactions that are known to be stored."""
+    rules and quotas of sites, and the rows of those of its transactions that are held already."""
 
     sites: dict[str, str]
     powers: dict[str, int]
     rules: dict[str, Rules]
     quotas: dict[str, Quota]
-    stored: Collection[Key]
+    stored: Mapping[Key, Row]
 
 
 def hold_plan(store: Database, batch: Batch, warm: Warm | None = None) -> Plan:
-    """What the plan has of a batch, which does not change up to the end of the database transaction."""
+    """What the plan has of a batch, which does not change up to the end of the database transaction. `warm`: what this
+    process knows, by which most sites are held before they are read."""
     keys = sorted(batch.sessions)
     stations = sorted({key[0] for key in keys} | {one.station for one in batch.others})
     known = warm.sites if warm else {}
-    held = {site for station in stations for site in known.get(station, ())}
+    sites = {site for station in stations for site in known.get(station, ())}
+    lock_sites(store, sites, False)
     while True:
-        lock_sites(store, list(held), False)
-        planned, stored = store_lines.find_plan(store, stations, keys)
-        needed = {row.site for row in planned.values()} | {*stored.values()}
-        if needed <= held or store.kind == "sqlite":
+        planned, stored = store_lines.hold_plan(store, stations, keys)
+        needed = {row.site for row in (*planned.values(), *stored.values())}
+        if needed <= sites or store.kind == "sqlite":
             break
-        held |= needed
-    for station, row in planned.items():
-        known[station] = {row.site}
-    for (station, _), site in stored.items():
-        known.setdefault(station, set()).add(site)
+        sites |= needed
+        lock_sites(store, sites, False)
+    known |= {station: {row.site} for station, row in planned.items()}
+    for (station, _), row in stored.items():
+        known.setdefault(station, set()).add(row.site)
     return make_plan(store, planned, needed, stored)
 
 
 def make_plan(
-    store: Database, planned: Mapping[str, Row], sites: Iterable[str], stored: Collection[Key] = ()
+    store: Database, planned: Mapping[str, Row], sites: Iterable[str], stored: Mapping[Key, Row]
 ) -> Plan:
     """What the plan has of these stations and sites."""
     rows = store_lines.find_rules(store, sites)
@@ -574,8 +575,10 @@ def write_rows(writer: Writer, work: Work, held: Held, done: Done) -> Kept | Non
             writer.drop_empty(key)
         return held.kept
     findings = [(one.kind.label, one.times, one.first, one.detail) for one in done.rows.findings]
+    session, parts, _ = done.rows
+    size = done.course.measure() if done.course else 0
     return writer.add(
-        key, Written(held, done.accepted, done.rows.session, done.rows.parts, findings, done.course)
+        key, Written(held, done.accepted, session, parts, findings, done.course, size)
     )
 
 
@@ -746,7 +749,7 @@ def compute_again(store: Database, site: str) -> int:
 def renew_sessions(store: Database, sites: dict[Key, str]) -> None:
     """Computes the rows of transactions again, within a database transaction. `sites`: those of the transactions."""
     planned = store_lines.find_stations(store, sorted({key[0] for key in sites}))
-    plan = make_plan(store, planned, set(sites.values()))
+    plan = make_plan(store, planned, set(sites.values()), {})
     held = store_lines.hold_sessions(store, sites)
     works = {}
     for key, one in held.items():

@@ -2,9 +2,10 @@
 
 import json
 from collections import OrderedDict
-from collections.abc import Collection, Iterable, Iterator, Mapping, Sequence
+from collections.abc import Iterable, Iterator, Mapping, Sequence
 from dataclasses import dataclass, field
 from datetime import datetime, timezone
+from types import MappingProxyType
 from typing import Any, NamedTuple
 
 from ocpp_board.errors import StoreError
@@ -158,25 +159,32 @@ def list_stations(keys: Iterable[Key]) -> list[str]:
     return sorted({key[0] for key in keys})
 
 
-def find_plan(
+def hold_plan(
     store: Database, stations: Sequence[str], keys: Sequence[Key]
-) -> tuple[dict[str, Row], dict[Key, str]]:
-    """Those of these stations that are planned, and the sites of those of these transactions that are stored."""
+) -> tuple[dict[str, Row], dict[Key, Row]]:
+    """Those of these stations that are planned, and those of these transactions that are stored, in the order of their
+    keys, which are held up to the end of the database transaction."""
     if store.kind == "sqlite":
-        found = zip(keys, fetch_keyed(store, "site", "session", keys))
-        return find_stations(store, stations), {key: rows[0].site for key, rows in found if rows}
+        return find_stations(store, stations), find_sessions(store, keys)
     rows = store.fetch(
-        """select station, '' as transaction_id, site, most_kw from station where station = any(:stations)
+        """select station, '' as transaction_id, site, most_kw, 0 as lines, cast(null as timestamptz) as changed_at,
+            '' as own_order from station where station = any(:stations)
         union all
         select t.* from json_to_recordset(:keys) as k (s text, t text) cross join lateral (
-            select station, transaction_id, site, cast(null as int) from session
-            where station = k.s and transaction_id = k.t and station = any(:stations)) t""",
+            select station, transaction_id, site, cast(null as int), lines, changed_at, own_order from session
+            where station = k.s and transaction_id = k.t and station = any(:stations) for update) t""",
         keys=write_keys(keys),
         stations=list(stations),
     )
     planned = {row.station: row for row in rows if not row.transaction_id}
-    stored = {(row.station, row.transaction_id): row.site for row in rows if row.transaction_id}
-    return planned, stored
+    return planned, {(row.station, row.transaction_id): row for row in rows if row.transaction_id}
+
+
+def find_sessions(store: Database, keys: Sequence[Key]) -> dict[Key, Row]:
+    """Those of these transactions that are stored; they are held up to the end of the database transaction."""
+    lock = "for update" if store.kind == "postgresql" else ""
+    found = fetch_keyed(store, "site, lines, changed_at, own_order", "session", keys, lock)
+    return {key: rows[0] for key, rows in zip(keys, found) if rows}
 
 
 def find_rules(store: Database, sites: Iterable[str]) -> dict[str, Row]:
@@ -194,11 +202,11 @@ def hold_sessions(
     store: Database,
     sites: dict[Key, str],
     warm: "Warm | None" = None,
-    stored: Collection[Key] = (),
+    stored: Mapping[Key, Row] = MappingProxyType({}),
 ) -> dict[Key, Held]:
     """Holds transactions up to the end of the database transaction, in the order of their keys, and gives what is
     stored of them. `sites`: those of the ones that are not stored; `warm`: what this process stored last; `stored`:
-    transactions that are known to be stored."""
+    those that are held already."""
     keys = sorted(sites)
     new = [key for key in keys if key not in stored]
     if store.kind == "postgresql" and new:
@@ -208,26 +216,22 @@ def hold_sessions(
             on conflict (station, transaction_id) do nothing""",
             keys=json.dumps([{"s": key[0], "t": key[1], "site": sites[key]} for key in new]),
         )
-    lock = "for update" if store.kind == "postgresql" else ""
-    had = fetch_keyed(store, "site, lines, changed_at, own_order", "session", keys, lock)
+    had = {**stored, **find_sessions(store, new)}
     kept = {
         key: one
-        for key, rows in zip(keys, had)
-        if rows and warm and (one := warm.take(key, rows[0].lines, rows[0].changed_at))
+        for key in keys
+        if warm and key in had and (one := warm.take(key, had[key].lines, had[key].changed_at))
     }
-    unread = [key for key, rows in zip(keys, had) if rows and rows[0].lines and key not in kept]
+    unread = [key for key in keys if key in had and had[key].lines and key not in kept]
     lines = dict(zip(unread, read_lines(store, unread)))
-    refusals = dict(zip(keys, read_refusals(store, keys)))
     found = dict[Key, Held]()
-    for key, rows in zip(keys, had):
-        site, order = (rows[0].site, rows[0].own_order) if rows else (sites[key], "")
-        if key in kept:
-            found[key] = Held(site, kept[key].lines, refusals[key], kept[key], order)
-            continue
-        own = lines.get(key, [])
+    for key, refusals in zip(keys, read_refusals(store, keys)):
+        site, order = (had[key].site, had[key].own_order) if key in had else (sites[key], "")
         # A transaction without lines has no other rows.
-        found[key] = Held(site, own, refusals[key], None if own else Kept(), order)
-        if rows and len(own) != rows[0].lines:
+        one = kept.get(key) or (None if key in lines else Kept())
+        own = one.lines if one else lines[key]
+        found[key] = Held(site, own, refusals, one, order)
+        if key in had and len(own) != had[key].lines:
             raise StoreError(
                 f"transaction {key[1]} of {key[0]} has not the lines that its row counts"
             )
@@ -264,10 +268,8 @@ class Kept:
     findings: dict[Any, Values] = field(default_factory=dict)
     changed_at: datetime | None = None
     course: Any = None
-
-    def measure(self) -> int:
-        """About how many bytes it takes."""
-        return sum(len(line.text) for line in self.lines) + 1_500 * len(self.lines) + 1_000
+    # About how many bytes all of it takes.
+    size: int = 0
 
 
 class Warm:
@@ -277,7 +279,7 @@ class Warm:
     def __init__(self, most: int = 256 * 1_048_576) -> None:
         """`most`: about how many bytes are kept."""
         self.most, self.size = most, 0
-        self.kept = OrderedDict[Key, tuple[Kept, int]]()
+        self.kept = OrderedDict[Key, Kept]()
         # The sites that stations needed last.
         self.sites = dict[str, set[str]]()
 
@@ -285,8 +287,8 @@ class Warm:
         """Takes out what is kept of a transaction; none where something else is stored."""
         if key not in self.kept:
             return None
-        kept, size = self.kept.pop(key)
-        self.size -= size
+        kept = self.kept.pop(key)
+        self.size -= kept.size
         is_stored = changed_at is not None and (len(kept.lines), kept.changed_at) == (
             lines,
             changed_at,
@@ -295,12 +297,11 @@ class Warm:
 
     def keep(self, key: Key, kept: Kept) -> None:
         """Keeps what was committed of a transaction; others go where there is no room."""
-        size = kept.measure()
-        self.kept[key] = kept, size
-        self.size += size
+        self.kept[key] = kept
+        self.size += kept.size
         while self.size > self.most:
-            _, (_, size) = self.kept.popitem(last=False)
-            self.size -= size
+            _, one = self.kept.popitem(last=False)
+            self.size -= one.size
 
 
 # Writing -------------------------------------------------------------------------------------------------------------
@@ -308,7 +309,7 @@ class Warm:
 
 class Written(NamedTuple):
     """What a transaction has in the store from now on. `accepted`: its new lines; `course`: what the ledger knows of
-    all."""
+    all of them, and `size`: about how many bytes that takes."""
 
     held: Held
     accepted: Sequence[Line]
@@ -316,6 +317,7 @@ class Written(NamedTuple):
     parts: Sequence[Values]
     findings: Sequence[Values]
     course: Any
+    size: int
 
 
 class Change(NamedTuple):
@@ -412,6 +414,7 @@ class Writer:
             {row[0]: row for row in one.findings},
             self.at,
             one.course,
+            one.size,
         )
 
     def drop_empty(self, key: Key) -> None:

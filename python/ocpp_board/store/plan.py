@@ -1,7 +1,7 @@
 """The plan of a store: its sites with their rules, its stations, and who changed them when and why."""
 
 import json
-from collections.abc import Iterator
+from collections.abc import Collection, Iterator
 from dataclasses import asdict, dataclass, replace
 from datetime import datetime, timedelta, timezone
 from typing import Any
@@ -108,10 +108,10 @@ def check_name(name: str, what: str, where: str) -> None:
         )
 
 
-def lock_sites(store: Database, sites: list[str], is_alone: bool) -> None:
+def lock_sites(store: Database, sites: Collection[str], is_alone: bool) -> None:
     """Holds sites up to the end of the database transaction: for their lines, or alone for their plan. SQLite has one
     writer at a time anyway."""
-    if store.kind == "postgresql":
+    if store.kind == "postgresql" and sites:
         word = "" if is_alone else "_shared"
         store.execute(
             f"""select pg_advisory_xact_lock{word}({SITE_LOCK}, hashtext(site))
