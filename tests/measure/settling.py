@@ -26,7 +26,7 @@ from tests.store.cluster import run_cluster
 from tests.store.scene import check, plan
 from tests.traffic.script import FIRST, START, kind_of, message
 
-STATIONS, ROUNDS, LAST = 60, 3, 100
+STATIONS, ROUNDS, LAST = 60, 3, 40
 SITE_SECONDS, RISE = 60, 50
 
 
@@ -89,10 +89,10 @@ def measure_growing(store: Database, events: int) -> str:
     plan(store)
     lines = [make_message("CS-01", "T1", number, events + 1) for number in range(events)]
     warm = Warm()
-    settle(store, lines[: -2 * LAST], warm=warm)
-    for line in lines[-2 * LAST : -LAST]:
+    settle(store, lines[:-LAST], warm=warm)
+    for line in lines[-LAST : -LAST // 2]:
         settle(store, [line], warm=warm)
-    return measure(store, [[line] for line in lines[-LAST:]], warm)
+    return measure(store, [[line] for line in lines[-LAST // 2 :]], warm)
 
 
 def measure_batches(store: Database, events: int) -> str:

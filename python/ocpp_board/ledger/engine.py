@@ -6,7 +6,7 @@ answer is given only after the commit. A failure gives none, and the same may co
 """
 
 import re
-from collections.abc import Callable, Iterable, Iterator, Mapping, Sequence
+from collections.abc import Callable, Collection, Iterable, Iterator, Sequence
 from contextlib import AbstractContextManager, nullcontext
 from dataclasses import dataclass, field
 from datetime import datetime, timezone
@@ -22,10 +22,8 @@ from ocpp_board.ledger.quotas import (
     FLOODS,
     TOO_MANY_STRAYS,
     Asking,
-    Quota,
     find_refused,
     find_strays_above,
-    read_quotas,
     write_reply,
 )
 from ocpp_board.ledger.refusals import (
@@ -52,10 +50,13 @@ from ocpp_board.store import lines as store_lines
 from ocpp_board.store.database import Database, Row, choose
 from ocpp_board.store.lines import Held, Kept, Key, Warm, Writer, Written
 from ocpp_board.store.plan import (
+    RULES_COLUMNS,
     Author,
-    lock_sites,
+    Planned,
+    find_planned,
     own_rules,
     read_rules,
+    share_sites,
     write_power,
     write_site,
 )
@@ -259,14 +260,17 @@ def write_batch(
     store: Database, batch: Batch, pool: Pool | None, warm: Warm | None, foreseen: Foreseen
 ) -> dict[Key, Kept]:
     """Writes what a batch changes, within a database transaction, and answers the rest of it."""
-    plan = hold_plan(store, batch, warm)
-    leave_strays(batch, plan.sites)
+    planned = hold_sites(store, batch, warm)
+    sites = planned.sites
+    leave_strays(batch, sites)
     refuse_strays(store, batch)
-    refuse_by_quotas(store, batch, plan)
-    held = hold_sessions(store, batch, plan, warm)
+    refuse_by_quotas(store, batch, planned)
+    held = store_lines.hold_sessions(
+        store, {key: sites[key[0]] for key in batch.sessions if key[0] in sites}, warm
+    )
     deeds = find_done(store, batch)
     batch.answers |= deeds
-    works = make_works(batch, plan, held, deeds)
+    works = make_works(store, batch, held, deeds, planned)
     writer, kept = Writer(store), dict[Key, Kept]()
     for key, work, done in work_on(works, pool, foreseen):
         take_answers(store, batch, work, done, held[key], deeds)
@@ -277,72 +281,25 @@ def write_batch(
     write_decided(store, batch)
     write_strays(store, batch)
     write_mended(store, batch)
-    write_levels(store, batch, plan.sites)
+    write_levels(store, batch, sites)
     return kept
 
 
-class Plan(NamedTuple):
-    """What the plan has of a batch: the sites of its stations, the powers of stations that have one of their own, the
-    rules and quotas of sites, and the rows of those of its transactions that are held already."""
-
-    sites: dict[str, str]
-    powers: dict[str, int]
-    rules: dict[str, Rules]
-    quotas: dict[str, Quota]
-    stored: Mapping[Key, Row]
-
-
-def hold_plan(store: Database, batch: Batch, warm: Warm | None = None) -> Plan:
-    """What the plan has of a batch, which does not change up to the end of the database transaction. `warm`: what this
-    process knows, by which most sites are held before they are read."""
-    keys = sorted(batch.sessions)
-    stations = sorted({key[0] for key in keys} | {one.station for one in batch.others})
-    known = warm.sites if warm else {}
-    sites = {site for station in stations for site in known.get(station, ())}
-    lock_sites(store, sites, False)
-    while True:
-        planned, stored = store_lines.hold_plan(store, stations, keys)
-        needed = {row.site for row in (*planned.values(), *stored.values())}
-        if needed <= sites or store.kind == "sqlite":
-            break
-        sites |= needed
-        lock_sites(store, sites, False)
-    known |= {station: {row.site} for station, row in planned.items()}
-    for (station, _), row in stored.items():
-        known.setdefault(station, set()).add(row.site)
-    return make_plan(store, planned, needed, stored)
-
-
-def make_plan(
-    store: Database, planned: Mapping[str, Row], sites: Iterable[str], stored: Mapping[Key, Row]
-) -> Plan:
-    """What the plan has of these stations and sites."""
-    rows = store_lines.find_rules(store, sites)
-    return Plan(
-        {station: row.site for station, row in planned.items()},
-        {station: row.most_kw for station, row in planned.items() if row.most_kw},
-        {site: read_rules(row) for site, row in rows.items()},
-        read_quotas(rows.values()),
-        stored,
-    )
-
-
-def hold_sessions(
-    store: Database, batch: Batch, plan: Plan, warm: Warm | None = None
-) -> dict[Key, Held]:
-    """Holds the transactions of a batch, and gives what is stored of them."""
-    sites = {key: plan.sites[key[0]] for key in batch.sessions if key[0] in plan.sites}
-    return store_lines.hold_sessions(store, sites, warm, plan.stored)
-
-
 def make_works(
-    batch: Batch, plan: Plan, held: dict[Key, Held], deeds: dict[int, Answer]
+    store: Database,
+    batch: Batch,
+    held: dict[Key, Held],
+    deeds: dict[int, Answer],
+    planned: Planned,
 ) -> dict[Key, Work]:
     """The works of transactions that are held."""
+    # A station that moved leaves the transactions that it began where they are.
+    others = {one.site for one in held.values()} - planned.rules.keys()
+    rules = planned.rules | find_all_rules(store, others)
     works = dict[Key, Work]()
     for key, one in held.items():
         new = list_new(batch, batch.sessions[key], deeds)
-        own = own_rules(plan.rules[one.site], one.own_order, plan.powers.get(key[0]))
+        own = own_rules(rules[one.site], one.own_order, planned.powers.get(key[0]))
         course: Course | None = one.kept.course if one.kept else None
         if course is not None and course.rules != own:
             # All rows were computed again meanwhile.
@@ -352,13 +309,35 @@ def make_works(
     return works
 
 
+def find_powers(store: Database, keys: Iterable[Key]) -> dict[str, int]:
+    """The powers of those of the stations of transactions that have one of their own."""
+    rows = store_lines.find_stations(store, sorted({key[0] for key in keys}))
+    return {station: row.most_kw for station, row in rows.items() if row.most_kw}
+
+
 def foresee(store: Database, batch: Batch) -> Foreseen:
     """What will become of a batch's transactions, if nobody changes them meanwhile."""
     with store.snapshot():
-        plan = hold_plan(store, batch)
-        held = hold_sessions(store, batch, plan)
-        works = make_works(batch, plan, held, find_done(store, batch))
+        planned = find_planned(store, sorted({key[0] for key in batch.sessions}))
+        sites = planned.sites
+        known = {key: sites[key[0]] for key in batch.sessions if key[0] in sites}
+        held = store_lines.hold_sessions(store, known)
+        works = make_works(store, batch, held, find_done(store, batch), planned)
     return {key: (work, done) for key, work, done in work_on(works, None)}
+
+
+def hold_sites(store: Database, batch: Batch, warm: Warm | None) -> Planned:
+    """What the plan has of the batch's stations; it does not change up to the end of the database transaction."""
+    stations = sorted({key[0] for key in batch.sessions} | {one.station for one in batch.others})
+    if store.kind != "postgresql":
+        return find_planned(store, stations)
+    # Transactions that a station began at another site have that one's rules.
+    others = store_lines.find_session_sites(store, list(batch.sessions), warm)
+    while True:
+        shared = share_sites(store, stations, others)
+        planned = find_planned(store, stations)
+        if shared.issuperset(planned.sites.values()):
+            return planned
 
 
 def leave_strays(batch: Batch, sites: dict[str, str]) -> None:
@@ -389,9 +368,10 @@ def refuse_strays(store: Database, batch: Batch) -> None:
     batch.strays = [one for one, key in zip(batch.strays, texts) if key not in above]
 
 
-def refuse_by_quotas(store: Database, batch: Batch, plan: Plan) -> None:
+def refuse_by_quotas(store: Database, batch: Batch, planned: Planned) -> None:
     """Answers messages that are above a quota of their site, which change nothing."""
-    if not plan.quotas:
+    sites, quotas = planned.sites, {site: one for site, one in planned.quotas.items() if any(one)}
+    if not quotas:
         return
     asking = [
         Asking(place, one, key)
@@ -403,10 +383,10 @@ def refuse_by_quotas(store: Database, batch: Batch, plan: Plan) -> None:
     asking += [
         Asking(place, one, None)
         for place, one in enumerate(batch.asked)
-        if id(one) in values and isinstance(one, Message) and one.station in plan.sites
+        if id(one) in values and isinstance(one, Message) and one.station in sites
     ]
     asking.sort(key=attrgetter("place"))
-    for place, name in find_refused(store, asking, plan.sites, plan.quotas).items():
+    for place, name in find_refused(store, asking, sites, quotas).items():
         one = batch.asked[place]
         assert isinstance(one, Message)
         key = (one.station, batch.wishes[place].text)
@@ -426,6 +406,19 @@ def refuse_message(batch: Batch, place: int, name: str) -> None:
     refusal = describe_message(one.text, name, one.received)
     batch.refusals.append((one, refusal, refusal.sent_id.lower()))
     batch.answers[place] = Answer("refused", name, write_reply(one.text, name))
+
+
+def find_all_rules(store: Database, sites: Collection[str]) -> dict[str, Rules]:
+    """The rules of sites."""
+    if not sites:
+        return {}
+    asked = f"select site, {RULES_COLUMNS} from site where site"
+    if store.kind == "postgresql":
+        rows = store.fetch(f"{asked} = any(:sites)", sites=sorted(sites))
+    else:
+        some = store.fetch_each(f"{asked} = :site", [{"site": site} for site in sorted(sites)])
+        rows = [row for one in some for row in one]
+    return {row.site: read_rules(row) for row in rows}
 
 
 def list_conflicts(key: Key, held: Held) -> list[str]:
@@ -712,7 +705,7 @@ def change_site(
     with store.transaction():
         if not write_site(store, site, rules, author, where):
             return 0
-        return compute_again(store, site)
+        return compute_again(store, site, rules)
 
 
 def change_power(
@@ -730,8 +723,8 @@ def change_power(
                 renew_sessions(store, dict([*sites.items()][start : start + SESSIONS_AT_ONCE]))
 
 
-def compute_again(store: Database, site: str) -> int:
-    """Computes the rows of a site's transactions again, within a database transaction that holds its plan."""
+def compute_again(store: Database, site: str, rules: Rules) -> int:
+    """Computes the rows of a site's transactions by these rules, within a database transaction that holds its plan."""
     count, after = 0, ("", "")
     asked = """select station, transaction_id from session where site = :site and (station > :station
     or station = :station and transaction_id > :transaction) order by station, transaction_id limit :most"""
@@ -742,18 +735,20 @@ def compute_again(store: Database, site: str) -> int:
         if not rows:
             return count
         keys = [(row.station, row.transaction_id) for row in rows]
-        renew_sessions(store, dict.fromkeys(keys, site))
+        renew_sessions(store, dict.fromkeys(keys, site), {site: rules})
         count, after = count + len(keys), keys[-1]
 
 
-def renew_sessions(store: Database, sites: dict[Key, str]) -> None:
+def renew_sessions(
+    store: Database, sites: dict[Key, str], rules: dict[str, Rules] | None = None
+) -> None:
     """Computes the rows of transactions again, within a database transaction. `sites`: those of the transactions."""
-    planned = store_lines.find_stations(store, sorted({key[0] for key in sites}))
-    plan = make_plan(store, planned, set(sites.values()), {})
+    rules = rules or find_all_rules(store, set(sites.values()))
     held = store_lines.hold_sessions(store, sites)
+    powers = find_powers(store, held)
     works = {}
     for key, one in held.items():
-        own = own_rules(plan.rules[one.site], one.own_order, plan.powers.get(key[0]))
+        own = own_rules(rules[one.site], one.own_order, powers.get(key[0]))
         works[key] = Work(*key, one.site, own, one.lines, [], list_conflicts(key, one), True)
     writer = Writer(store)
     for key, work, done in work_on(works, None):
@@ -775,7 +770,7 @@ def order_session(
         )
         if row is None:
             raise InputError(f"the store has no transaction {transaction!r} of station {station!r}")
-        lock_sites(store, [row.site], False)
+        share_sites(store, [], [row.site])
         store.execute(
             "update session set own_order = :order where station = :station and transaction_id = :transaction",
             order=order,

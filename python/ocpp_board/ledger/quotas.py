@@ -5,12 +5,12 @@ may keep is in the site's rules; messages a second are counted by the gateway th
 """
 
 import json
-from collections.abc import Iterable, Mapping, Sequence
+from collections.abc import Mapping, Sequence
 from datetime import datetime, timezone
 from typing import NamedTuple
 
-from ocpp_board.records import Message
-from ocpp_board.store.database import Database, Row
+from ocpp_board.records import Message, Quota
+from ocpp_board.store.database import Database
 from ocpp_board.store.lines import Key
 
 TOO_MANY_OPEN, TOO_MANY_BYTES = "TooManyOpen", "TooManyBytes"
@@ -21,28 +21,12 @@ FLOODS = frozenset((TOO_MANY_BYTES, TOO_MANY_MESSAGES, TOO_MANY_STRAYS))
 MOST_STRAYS = 50_000
 
 
-class Quota(NamedTuple):
-    """A site's quotas for each of its stations; 0: any number."""
-
-    open: int
-    bytes: int
-
-
 class Asking(NamedTuple):
     """A message that would be stored: its place in the batch, and its transaction, if it has one."""
 
     place: int
     message: Message
     key: Key | None
-
-
-def read_quotas(rows: Iterable[Row]) -> dict[str, Quota]:
-    """The quotas of those of these sites that have some."""
-    return {
-        row.site: Quota(row.most_open, row.most_bytes)
-        for row in rows
-        if row.most_open or row.most_bytes
-    }
 
 
 def find_refused(

@@ -31,43 +31,44 @@ create view session_run as
         /*postgresql lateral unnest(string_to_array(ltrim(s.gaps || ' -'), ' ')) with ordinality as g(value, place)*/
     where s.events > 0;
 
--- Each transaction of an EVSE beside the one before it, of those that have readings: when that was over, and what its
--- register read last.
+-- Each transaction of an EVSE that has readings, with what its register read last in the one before it.
 create view evse_step as
     select site, station, transaction_id, evse, first_at, first_register,
-        lag(transaction_id) over earlier as before_id,
-        lag(last_at) over earlier as before_over,
-        lag(last_register) over earlier as before_register
+        lag(last_register) over (partition by site, station, evse order by first_at, transaction_id) as before_register
     from session
-    where evse <> 0 and events > 0 and first_register is not null
-    window earlier as (partition by site, station, evse order by first_at, transaction_id);
+    where evse <> 0 and events > 0 and first_register is not null;
 
--- Each transaction of an EVSE that has no end beside the one after it, which the index by station, EVSE and time finds,
--- and none by site.
+-- Each transaction of an EVSE that has no end beside the one after it.
 create view evse_next as
     select s.site, s.station, s.transaction_id, s.evse, s.last_at, n.transaction_id as next_id, n.first_at as next_at
     from session s join session n on n.station = s.station and n.transaction_id = (
         select l.transaction_id from session l
-        where l.station = s.station and l.evse = s.evse and l.site || '' = s.site and l.events > 0
+        where l.site = s.site and l.station = s.station and l.evse = s.evse and l.events > 0
             and l.first_at >= s.first_at and (l.first_at > s.first_at or l.transaction_id > s.transaction_id)
         order by l.first_at, l.transaction_id limit 1)
     where s.ended is null and s.evse <> 0 and s.events > 0;
 
--- How far the register of an EVSE rose or fell from one transaction to the next, where that is doubtful. Energies are
--- also there as texts of their watt-hours: eleven digits behind a 1.
+-- How far the register of an EVSE rose or fell from one transaction to the next, where that is doubtful and the one
+-- before was over. Energies are also there as texts of their watt-hours: eleven digits behind a 1.
 create view evse_change as
-    select site, station, transaction_id, first_at, before_id, first_register - before_register as mwh,
-        cast(100000000000 + (before_register + 500) / 1000 as text) as had,
-        cast(100000000000 + (first_register + 500) / 1000 as text) as has,
-        cast(100000000000 + (abs(first_register - before_register) + 500) / 1000 as text) as difference
-    from evse_step
-    where first_at >= before_over
-        and (first_register - before_register >= 10000 or before_register - first_register >= 1000000);
+    select s.site, s.station, s.transaction_id, s.first_at, b.transaction_id as before_id,
+        s.first_register - s.before_register as mwh,
+        cast(100000000000 + (s.before_register + 500) / 1000 as text) as had,
+        cast(100000000000 + (s.first_register + 500) / 1000 as text) as has,
+        cast(100000000000 + (abs(s.first_register - s.before_register) + 500) / 1000 as text) as difference
+    from evse_step s join session b on b.station = s.station and b.transaction_id = (
+        select l.transaction_id from session l
+        where l.site = s.site and l.station = s.station and l.evse = s.evse and l.events > 0
+            and l.first_register is not null
+            and l.first_at <= s.first_at and (l.first_at < s.first_at or l.transaction_id < s.transaction_id)
+        order by l.first_at desc, l.transaction_id desc limit 1)
+    where s.first_at >= b.last_at
+        and (s.first_register - s.before_register >= 10000 or s.before_register - s.first_register >= 1000000);
 
 -- Each number that a transaction lacks and that came in a transaction of another EVSE at the same time, with which it
 -- has none in common: how many numbers of a gap a run of the other one has.
 create view other_counter as
-    select s.site, s.station, s.transaction_id, s.first_at, s.missing, o.transaction_id as other_id,
+    select s.site, s.station, s.transaction_id, o.transaction_id as other_id,
         case when g.last_number < r.last_number then g.last_number else r.last_number end
         - case when g.first_number > r.first_number then g.first_number else r.first_number end + 1 as numbers
     from session s
@@ -105,12 +106,14 @@ create view evse_finding as
     select site, station, transaction_id, 'no end, and a later session began', 1, next_at, next_id || ' began'
     from evse_next where next_at >= last_at
     union all
-    select site, station, transaction_id, 'one counter for several EVSEs', 1, first_at,
-        'with ' || min(other_id) || case when count(distinct other_id) > 1
-            then ' and ' || (count(distinct other_id) - 1) || ' more' else '' end
-    from other_counter
-    group by site, station, transaction_id, first_at, missing
-    having sum(numbers) = missing;
+    select s.site, s.station, s.transaction_id, 'one counter for several EVSEs', 1, s.first_at, (
+        select 'with ' || min(c.other_id) || case when count(distinct c.other_id) > 1
+            then ' and ' || (count(distinct c.other_id) - 1) || ' more' else '' end
+        from other_counter c where c.station = s.station and c.transaction_id = s.transaction_id)
+    from session s
+    where s.missing > 0 and s.events > 0 and not s.complete and s.missing = (
+        select sum(c.numbers) from other_counter c
+        where c.station = s.station and c.transaction_id = s.transaction_id);
 
 -- Where the register of an EVSE rose from one of its MeterValues to the next while no transaction was there.
 create view outside_rise as
@@ -129,8 +132,8 @@ create view station_finding as
         cast(sum(s.boundary_moments) as bigint) as times, min(s.first_boundary_at) as first_at,
         sum(s.boundary_moments) || ' of ' || sum(s.reading_moments) || ' moments of readings; `--settle ' || s.site
             || '=even` of report, follow or log-to-script (in a script line `settle ' || s.site || ' even`)' as detail
-    from session s join site i on i.site = s.site
-    where i.settle = 'later' and s.events > 0
+    from site i cross join session s
+    where s.site = i.site and i.settle = 'later' and s.events > 0
     group by s.site, s.station
     having sum(s.boundary_moments) >= 8 and 2 * sum(s.boundary_moments) > sum(s.reading_moments)
     union all

@@ -2,16 +2,23 @@
 
 import json
 from collections import OrderedDict
-from collections.abc import Iterable, Iterator, Mapping, Sequence
+from collections.abc import Iterable, Iterator, Sequence
 from dataclasses import dataclass, field
-from datetime import datetime, timezone
-from types import MappingProxyType
+from datetime import datetime, timedelta, timezone
 from typing import Any, NamedTuple
 
 from ocpp_board.errors import StoreError
 from ocpp_board.records import LeftOut, Line
-from ocpp_board.store.database import Database, Row, SqliteDatabase, choose
-from ocpp_board.store.plan import RULES_COLUMNS
+from ocpp_board.store.database import (
+    EPOCH,
+    Database,
+    Row,
+    SqliteDatabase,
+    choose,
+    count_days,
+    count_hours,
+    write_moment,
+)
 
 SESSION = """lines evse events voided first_number last_number complete missing gaps up down export_up export_down state
 began ended first_at last_at first_register last_register first_export_register last_export_register stopped_reason
@@ -24,6 +31,7 @@ SENT = [
     SESSION.index(name)
     for name in ("stopped_reason", "sent_id", "token", "token_type", "remote_start_id", "signed")
 ]
+LAST_AT = SESSION.index("last_at")
 PART = "starts up down export_up export_down on_board measured shared numbers_missing".split()
 FINDING = "kind times first_at detail".split()
 OF_SESSION = "station = :station and transaction_id = :transaction"
@@ -36,6 +44,11 @@ LONGEST_ORIGINS = 4_000
 
 
 KEYS = ("station", "transaction_id")
+MICROSECOND = timedelta(microseconds=1)
+# When a row of `session` was changed, as a whole number where the database has one, which costs little to read.
+CHANGED = (
+    "/*sqlite changed_at*/ /*postgresql cast(extract(epoch from changed_at) * 1000000 as bigint)*/"
+)
 # Transactions whose rows are written at once.
 WRITTEN_AT_ONCE = 1_000
 # A text that came again is counted, but for one of a place that was read before.
@@ -134,9 +147,9 @@ def fetch_keyed(
     follows the condition."""
     if not keys:
         return []
-    if store.kind == "sqlite":
+    if store.kind == "sqlite" or len(keys) == 1:
         asked = f"select {columns} from {table} where {OF_SESSION} {more}"
-        return list(store.fetch_each(asked, name_keys(keys)))
+        return [store.fetch(asked, **one) for one in name_keys(keys)]
     found: list[list[Row]] = [[] for _ in keys]
     for row in store.fetch(
         f"""select k.place, t.* from json_to_recordset(:keys) as k (place int, s text, t text) cross join lateral (
@@ -159,83 +172,70 @@ def list_stations(keys: Iterable[Key]) -> list[str]:
     return sorted({key[0] for key in keys})
 
 
-def hold_plan(
-    store: Database, stations: Sequence[str], keys: Sequence[Key]
-) -> tuple[dict[str, Row], dict[Key, Row]]:
-    """Those of these stations that are planned, and those of these transactions that are stored, in the order of their
-    keys, which are held up to the end of the database transaction."""
-    if store.kind == "sqlite":
-        return find_stations(store, stations), find_sessions(store, keys)
-    rows = store.fetch(
-        """select station, '' as transaction_id, site, most_kw, 0 as lines, cast(null as timestamptz) as changed_at,
-            '' as own_order from station where station = any(:stations)
-        union all
-        select t.* from json_to_recordset(:keys) as k (s text, t text) cross join lateral (
-            select station, transaction_id, site, cast(null as int), lines, changed_at, own_order from session
-            where station = k.s and transaction_id = k.t and station = any(:stations) for update) t""",
-        keys=write_keys(keys),
-        stations=list(stations),
-    )
-    planned = {row.station: row for row in rows if not row.transaction_id}
-    return planned, {(row.station, row.transaction_id): row for row in rows if row.transaction_id}
-
-
-def find_sessions(store: Database, keys: Sequence[Key]) -> dict[Key, Row]:
-    """Those of these transactions that are stored; they are held up to the end of the database transaction."""
-    lock = "for update" if store.kind == "postgresql" else ""
-    found = fetch_keyed(store, "site, lines, changed_at, own_order", "session", keys, lock)
-    return {key: rows[0] for key, rows in zip(keys, found) if rows}
-
-
-def find_rules(store: Database, sites: Iterable[str]) -> dict[str, Row]:
-    """The rules and quotas of sites."""
-    asked = f"select site, {RULES_COLUMNS}, most_open, most_bytes from site where site"
-    if store.kind == "postgresql":
-        rows = store.fetch(f"{asked} = any(:sites)", sites=sorted(sites))
-    else:
-        some = store.fetch_each(f"{asked} = :site", [{"site": site} for site in sorted(sites)])
-        rows = [row for one in some for row in one]
-    return {row.site: row for row in rows}
+def find_session_sites(
+    store: Database, keys: Sequence[Key], warm: "Warm | None" = None
+) -> set[str]:
+    """The sites of those of these transactions that are stored. `warm`: what this process stored last."""
+    kept: dict[Key, Kept] = {} if warm is None else warm.kept
+    found = fetch_keyed(store, "site", "session", [key for key in keys if key not in kept])
+    known = {kept[key].site for key in keys if key in kept}
+    return known | {row.site for one in found for row in one}
 
 
 def hold_sessions(
-    store: Database,
-    sites: dict[Key, str],
-    warm: "Warm | None" = None,
-    stored: Mapping[Key, Row] = MappingProxyType({}),
+    store: Database, sites: dict[Key, str], warm: "Warm | None" = None
 ) -> dict[Key, Held]:
     """Holds transactions up to the end of the database transaction, in the order of their keys, and gives what is
-    stored of them. `sites`: those of the ones that are not stored; `warm`: what this process stored last; `stored`:
-    those that are held already."""
+    stored of them. `sites`: those of the ones that are not stored; `warm`: what this process stored last.
+    """
     keys = sorted(sites)
-    new = [key for key in keys if key not in stored]
-    if store.kind == "postgresql" and new:
-        store.execute(
-            """insert into session (station, transaction_id, site) select s, t, site
-            from json_to_recordset(:keys) as k (s text, t text, site text)
-            on conflict (station, transaction_id) do nothing""",
-            keys=json.dumps([{"s": key[0], "t": key[1], "site": sites[key]} for key in new]),
-        )
-    had = {**stored, **find_sessions(store, new)}
+    had = lock_rows(store, sites, warm)
     kept = {
         key: one
-        for key in keys
-        if warm and key in had and (one := warm.take(key, had[key].lines, had[key].changed_at))
+        for key, rows in zip(keys, had)
+        if rows and warm and (one := warm.take(key, rows[0].lines, rows[0].changed))
     }
-    unread = [key for key in keys if key in had and had[key].lines and key not in kept]
-    lines = dict(zip(unread, read_lines(store, unread)))
+    stored = [key for key, rows in zip(keys, had) if rows and rows[0].lines and key not in kept]
+    lines = dict(zip(stored, read_lines(store, stored)))
+    refusals = read_some_refusals(store, keys)
     found = dict[Key, Held]()
-    for key, refusals in zip(keys, read_refusals(store, keys)):
-        site, order = (had[key].site, had[key].own_order) if key in had else (sites[key], "")
+    for key, rows in zip(keys, had):
+        site, order = (rows[0].site, rows[0].own_order) if rows else (sites[key], "")
+        refused = refusals.get(key, [])
+        if key in kept:
+            found[key] = Held(site, kept[key].lines, refused, kept[key], order)
+            continue
+        own = lines.get(key, [])
         # A transaction without lines has no other rows.
-        one = kept.get(key) or (None if key in lines else Kept())
-        own = one.lines if one else lines[key]
-        found[key] = Held(site, own, refusals, one, order)
-        if key in had and len(own) != had[key].lines:
+        found[key] = Held(site, own, refused, None if own else Kept(), order)
+        if rows and len(own) != rows[0].lines:
             raise StoreError(
                 f"transaction {key[1]} of {key[0]} has not the lines that its row counts"
             )
     return found
+
+
+def lock_rows(store: Database, sites: dict[Key, str], warm: "Warm | None") -> list[list[Row]]:
+    """The rows of these transactions, in the order of their keys: in PostgreSQL they are there then, and held."""
+    keys, columns = (
+        sorted(sites),
+        f"site, lines, {choose(CHANGED, store.kind)} as changed, own_order",
+    )
+    if store.kind != "postgresql":
+        return fetch_keyed(store, columns, "session", keys)
+    new = [key for key in keys if warm is None or key not in warm.kept]
+    while True:
+        if new:
+            store.execute(
+                """insert into session (station, transaction_id, site) select s, t, site
+                from json_to_recordset(:keys) as k (s text, t text, site text)
+                on conflict (station, transaction_id) do nothing""",
+                keys=json.dumps([{"s": key[0], "t": key[1], "site": sites[key]} for key in new]),
+            )
+        had = fetch_keyed(store, columns, "session", keys, "for update")
+        new = [key for key, rows in zip(keys, had) if not rows]
+        if not new:
+            return had
 
 
 def read_lines(store: Database, keys: Sequence[Key]) -> Iterable[list[Line]]:
@@ -253,6 +253,18 @@ def read_refusals(store: Database, keys: Sequence[Key]) -> Iterable[list[Row]]:
     return fetch_keyed(store, columns, "refusal", keys, "and decision = ''")
 
 
+def read_some_refusals(store: Database, keys: Sequence[Key]) -> dict[Key, list[Row]]:
+    """The same of those of these transactions whose stations have some."""
+    if store.kind == "postgresql" and len(keys) > 1:
+        rows = store.fetch(
+            "select distinct station from refusal where station = any(:stations) and decision = ''",
+            stations=list_stations(keys),
+        )
+        stations = {row.station for row in rows}
+        keys = [key for key in keys if key[0] in stations]
+    return dict(zip(keys, read_refusals(store, keys)))
+
+
 # What a process stored last ------------------------------------------------------------------------------------------
 
 Values = tuple[Any, ...]  # Those of a row, in the order of its columns.
@@ -260,13 +272,14 @@ Values = tuple[Any, ...]  # Those of a row, in the order of its columns.
 
 @dataclass(slots=True)
 class Kept:
-    """The lines of a transaction, the rows of its periods and findings by the first of their columns, and what the
-    ledger knows of its lines."""
+    """The lines of a transaction, the rows of its periods and findings by the first of their columns, its site, when
+    its row was changed, as CHANGED has it, and what the ledger knows of its lines."""
 
     lines: list[Line] = field(default_factory=list)
     parts: dict[Any, Values] = field(default_factory=dict)
     findings: dict[Any, Values] = field(default_factory=dict)
-    changed_at: datetime | None = None
+    site: str = ""
+    changed: int | str | None = None
     course: Any = None
     # About how many bytes all of it takes.
     size: int = 0
@@ -280,19 +293,14 @@ class Warm:
         """`most`: about how many bytes are kept."""
         self.most, self.size = most, 0
         self.kept = OrderedDict[Key, Kept]()
-        # The sites that stations needed last.
-        self.sites = dict[str, set[str]]()
 
-    def take(self, key: Key, lines: int, changed_at: datetime | None) -> Kept | None:
+    def take(self, key: Key, lines: int, changed: int | str | None) -> Kept | None:
         """Takes out what is kept of a transaction; none where something else is stored."""
         if key not in self.kept:
             return None
         kept = self.kept.pop(key)
         self.size -= kept.size
-        is_stored = changed_at is not None and (len(kept.lines), kept.changed_at) == (
-            lines,
-            changed_at,
-        )
+        is_stored = changed is not None and (len(kept.lines), kept.changed) == (lines, changed)
         return kept if is_stored else None
 
     def keep(self, key: Key, kept: Kept) -> None:
@@ -305,6 +313,11 @@ class Warm:
 
 
 # Writing -------------------------------------------------------------------------------------------------------------
+
+
+def write_changed(store: Database, at: datetime) -> int | str:
+    """A moment of change as CHANGED has it."""
+    return (at - EPOCH) // MICROSECOND if store.kind == "postgresql" else write_moment(at)
 
 
 class Written(NamedTuple):
@@ -320,83 +333,8 @@ class Written(NamedTuple):
     size: int
 
 
-class Change(NamedTuple):
-    """Rows of a table that are to be written: deleted by their keys, or inserted; where they are there, they fail if no
-    keys are named, and else their other columns are written. `compared`: those of which one has to differ for that.
-    """
-
-    table: str
-    columns: Sequence[str]
-    rows: Sequence[Values]
-    keys: Sequence[str] = ()
-    compared: Sequence[str] = ()
-    is_deletion: bool = False
-
-    def write_conflict(self) -> str:
-        """What becomes of rows that are there."""
-        if not self.keys:
-            return ""
-        names = [name for name in self.columns if name not in self.keys]
-        changes = ", ".join(f"{name} = excluded.{name}" for name in names)
-        text = f"on conflict ({', '.join(self.keys)}) do update set {changes}"
-        if self.compared:
-            had, has = (
-                ", ".join(f"{of}.{name}" for name in self.compared)
-                for of in (self.table, "excluded")
-            )
-            text += f" where ({had}) is distinct from ({has})"
-        return text
-
-    def write_sqlite(self) -> str:
-        """The statement for a row."""
-        if self.is_deletion:
-            where = " and ".join(f"{name} = ?" for name in self.keys)
-            return f"delete from {self.table} where {where}"
-        names, marks = ", ".join(self.columns), ", ".join("?" * len(self.columns))
-        return f"insert into {self.table} ({names}) values ({marks}) {self.write_conflict()}"
-
-    def write_postgresql(self, rows: str) -> str:
-        """The statement for all rows, which are the JSON of a value with this name."""
-        if self.is_deletion:
-            where = " and ".join(f"t.{name} = r.{name}" for name in self.keys)
-            return f"""delete from {self.table} t using {self.write_source(rows)}
-            where {where} and t.station = any(:stations)"""
-        names = ", ".join(self.columns)
-        return f"""insert into {self.table} ({names}) select {names} from {self.write_source(rows)}
-        {self.write_conflict()}"""
-
-    def write_source(self, rows: str) -> str:
-        """The rows as a table."""
-        if self.table == "line":
-            # PostgreSQL has a type `line` of its own, so the table's can't be named here.
-            return f"""json_to_recordset(:{rows}) as r (station text, transaction_id text, number int,
-            received timestamptz, line text, who text, origin text, why text)"""
-        return f"json_populate_recordset(null::{self.table}, :{rows}) as r"
-
-
-def run_changes(store: Database, changes: Sequence[Change]) -> None:
-    """Writes changes: in PostgreSQL by one statement."""
-    changes = [one for one in changes if one.rows]
-    if isinstance(store, SqliteDatabase):
-        for one in changes:
-            store.execute_rows(one.write_sqlite(), one.rows)
-    elif changes:
-        names = [f"rows_{number}" for number in range(len(changes))]
-        *others, last = [one.write_postgresql(name) for one, name in zip(changes, names)]
-        front = ", ".join(f"change_{number} as ({text})" for number, text in enumerate(others))
-        values: dict[str, Any] = {
-            name: json.dumps(
-                [dict(zip(one.columns, row)) for row in one.rows], default=datetime.isoformat
-            )
-            for one, name in zip(changes, names)
-        }
-        if any(one.is_deletion for one in changes):
-            values["stations"] = list_stations((row[0], "") for one in changes for row in one.rows)
-        store.execute(f"with {front} {last}" if front else last, **values)
-
-
 class Writer:
-    """Collects what changed of transactions, and writes it."""
+    """Collects what changed of transactions, and writes it, each table by one statement in PostgreSQL."""
 
     def __init__(self, store: Database) -> None:
         self.store, self.at = store, datetime.now(timezone.utc)
@@ -412,7 +350,8 @@ class Writer:
             [*one.held.lines, *one.accepted],
             {row[0]: row for row in one.parts},
             {row[0]: row for row in one.findings},
-            self.at,
+            one.held.site,
+            write_changed(self.store, self.at),
             one.course,
             one.size,
         )
@@ -425,41 +364,26 @@ class Writer:
     def write(self) -> None:
         """Writes what was collected."""
         lines = [(*key, *line) for key, one in self.rows.items() for line in one.accepted]
+        insert_rows(self.store, "line", LINE, lines)
+        hour = count_hours(self.at)
         sessions = [
-            (*key, one.held.site, self.at, *clean_session(one.session))
+            (*key, one.held.site, self.at, hour, find_day(one.session), *clean_session(one.session))
             for key, one in self.rows.items()
         ]
-        columns = [*KEYS, "site", "changed_at", *SESSION]
-        before = self.find_before()
-        run_changes(
-            self.store,
-            [
-                Change("line", LINE, lines),
-                Change("session", columns, sessions, KEYS, SESSION),
-                *list_differences(
-                    "part",
-                    PART,
-                    {key: (before[key].parts, one.parts) for key, one in self.rows.items()},
-                ),
-                *list_differences(
-                    "finding",
-                    FINDING,
-                    {key: (before[key].findings, one.findings) for key, one in self.rows.items()},
-                ),
-            ],
-        )
+        columns = [*KEYS, "site", "changed_at", "changed_hour", "last_day", *SESSION]
+        write_rows(self.store, "session", columns, KEYS, sessions, compared=SESSION)
+        unknown = sorted(key for key, one in self.rows.items() if one.held.kept is None)
+        parts = {key: one.parts for key, one in self.rows.items()}
+        findings = {key: one.findings for key, one in self.rows.items()}
+        for table, columns, rows in (("part", PART, parts), ("finding", FINDING, findings)):
+            before = dict(zip(unknown, read_by_first(self.store, table, columns, unknown)))
+            for key, one in self.rows.items():
+                if kept := one.held.kept:
+                    before[key] = kept.parts if table == "part" else kept.findings
+            write_differences(self.store, table, columns, before, rows)
         if self.empty:
             delete_each(self.store, "session", self.empty)
         self.rows, self.empty = {}, []
-
-    def find_before(self) -> dict[Key, Kept]:
-        """What is stored of the transactions that were collected: read where it is not known."""
-        known = {key: one.held.kept for key, one in self.rows.items() if one.held.kept}
-        unknown = sorted(self.rows.keys() - known.keys())
-        parts = read_by_first(self.store, "part", PART, unknown)
-        findings = read_by_first(self.store, "finding", FINDING, unknown)
-        read = zip(unknown, parts, findings)
-        return known | {key: Kept(parts=some, findings=others) for key, some, others in read}
 
 
 def read_by_first(
@@ -471,21 +395,10 @@ def read_by_first(
         yield {one[0]: one for one in values}
 
 
-def list_differences(
-    table: str,
-    columns: Sequence[str],
-    rows: Mapping[Key, tuple[dict[Any, Values], Sequence[Values]]],
-) -> Iterator[Change]:
-    """What to change of `part` or `finding`, by the rows of transactions before and after: those that are not there or
-    differ are written, others go."""
-    keys = [*KEYS, columns[0]]
-    more, gone = list[Values](), list[Values]()
-    for key, (had, has) in rows.items():
-        more += [(*key, *one) for one in has if had.get(one[0]) != one]
-        if had:
-            gone += [(*key, first) for first in had.keys() - {one[0] for one in has}]
-    yield Change(table, keys, gone, keys, is_deletion=True)
-    yield Change(table, [*KEYS, *columns], more, keys)
+def find_day(session: Values) -> int | None:
+    """The last day of a transaction."""
+    last = session[LAST_AT]
+    return None if last is None else count_days(last)
 
 
 def clean_session(session: Values) -> Values:
@@ -498,6 +411,87 @@ def clean_session(session: Values) -> Values:
 def clean_text(text: str) -> str:
     """A text as both databases keep it: without the character 0, and without half a surrogate pair."""
     return text.replace("\0", "\ufffd").encode("utf-8", "replace").decode()
+
+
+def write_json(columns: Sequence[str], rows: Iterable[Values]) -> str:
+    """Rows as the JSON of a table."""
+    return json.dumps([dict(zip(columns, row)) for row in rows], default=datetime.isoformat)
+
+
+def insert_rows(
+    store: Database, table: str, columns: Sequence[str], rows: Sequence[Values], more: str = ""
+) -> None:
+    """Inserts rows, each with the values of these columns; without `more` one that is there fails."""
+    if not rows:
+        return
+    names, marks = ", ".join(columns), ", ".join("?" * len(columns))
+    if isinstance(store, SqliteDatabase):
+        store.execute_rows(f"insert into {table} ({names}) values ({marks}) {more}", rows)
+    elif table == "line":
+        # PostgreSQL has a type `line` of its own, so the table's can't be named here.
+        store.execute(
+            f"""insert into line ({names}) select {names} from json_to_recordset(:rows) as r (station text,
+            transaction_id text, number int, received timestamptz, line text, who text, origin text, why text)""",
+            rows=write_json(columns, rows),
+        )
+    else:
+        store.execute(
+            f"""insert into {table} ({names}) select {names} from json_populate_recordset(null::{table}, :rows)
+            {more}""",
+            rows=write_json(columns, rows),
+        )
+
+
+def write_rows(
+    store: Database,
+    table: str,
+    columns: Sequence[str],
+    keys: Sequence[str],
+    rows: Sequence[Values],
+    compared: Sequence[str] = (),
+) -> None:
+    """Inserts rows, or writes their columns beside the keys where they are there. `compared`: the columns of which one
+    has to differ for that."""
+    changes = ", ".join(f"{name} = excluded.{name}" for name in columns if name not in keys)
+    more = f"on conflict ({', '.join(keys)}) do update set {changes}"
+    if compared:
+        had, has = (", ".join(f"{of}.{name}" for name in compared) for of in (table, "excluded"))
+        more += f" where ({had}) is distinct from ({has})"
+    insert_rows(store, table, columns, rows, more)
+
+
+def write_differences(
+    store: Database,
+    table: str,
+    columns: Sequence[str],
+    before: dict[Key, dict[Any, Values]],
+    own: dict[Key, Sequence[Values]],
+) -> None:
+    """Writes the rows of transactions in `part` or `finding`: those that are not there or differ; others go."""
+    keys = [*KEYS, columns[0]]
+    more, gone = list[Values](), list[Values]()
+    for key, rows in own.items():
+        had = before[key]
+        more += [(*key, *one) for one in rows if had.get(one[0]) != one]
+        gone += [(*key, first) for first in had.keys() - {one[0] for one in rows}]
+    if gone:
+        delete_rows(store, table, keys, gone)
+    write_rows(store, table, [*KEYS, *columns], keys, more)
+
+
+def delete_rows(store: Database, table: str, keys: Sequence[str], rows: Sequence[Values]) -> None:
+    """Deletes the rows with these keys."""
+    if isinstance(store, SqliteDatabase):
+        where = " and ".join(f"{name} = ?" for name in keys)
+        store.execute_rows(f"delete from {table} where {where}", rows)
+        return
+    where = " and ".join(f"t.{name} = g.{name}" for name in keys)
+    store.execute(
+        f"""delete from {table} t using json_populate_recordset(null::{table}, :rows) g
+        where {where} and t.station = any(:stations)""",
+        rows=write_json(keys, rows),
+        stations=list_stations((row[0], row[1]) for row in rows),
+    )
 
 
 def delete_each(store: Database, table: str, keys: Sequence[Key]) -> None:
