@@ -128,8 +128,8 @@ class LiveEvents(list[Event]):
 
     def take(self, lists: Lists, history: History) -> None:
         """Takes what these lists have, which is behind all that was taken before."""
-        placed = [read_placed(line) for line in lists.imported]
-        exported = [read_placed(line) for line in lists.exported]
+        placed = read_placed(lists.imported, False)
+        exported = read_placed(lists.exported, True)
         own = group_readings([*placed, *exported])
         events = dict[int, Event]()
         for line in lists.events:
