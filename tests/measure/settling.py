@@ -3,9 +3,9 @@
     tests/one measure.settling growing --events 480
     tests/one measure.settling batches --events 48
 
-`growing`: a transaction of so many events; the last of them come by themselves, and what each costs is shown. `batches`:
-60 stations send transactions of so many events, each a message in each batch. Times are of a processor, in
-milliseconds a message: of this process, with the library's part of them, and of PostgreSQL's process.
+`growing`: a transaction of so many events; the last of them come by themselves, and what each costs is shown.
+`batches`: 60 stations send transactions of so many events, each a message in each batch. Times are those of a
+processor, in milliseconds a message: of this process, with the library's part of them, and of PostgreSQL's process.
 """
 
 import argparse
