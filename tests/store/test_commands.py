@@ -63,7 +63,7 @@ def test_plan(store: Database, store_name: str) -> None:
     assert {(row.who, row.why) for row in changes} == {("jo", "opened")}
     assert '"period": 900' in changes[1].before_text and '"period": 3600' in changes[1].after_text
     table = list(csv.reader(io.StringIO(run(*words).out)))
-    assert table[1][:4] == ["north", "CS-01", "3600", "moment"] and len(table) == 2
+    assert table[1][:5] == ["north", "CS-01", "", "3600", "moment"] and len(table) == 2
 
 
 def test_plan_of_a_file(store: Database, store_name: str, tmp_path: Path) -> None:

@@ -243,7 +243,7 @@ def script_of(log: list[str], folder: Path, *words: str) -> tuple[str, dict[str,
     (folder / "log").write_text("".join(line + "\n" for line in log))
     out = io.BytesIO()
     with open(folder / "log", "rb") as file:
-        conversion = Conversion(read_words(words), out)
+        conversion = Conversion(read_words(["--no-received", *words]), out)
         conversion.run(file, Progress(file))
         conversion.script.write()
     return out.getvalue().decode(), conversion.counts
@@ -403,7 +403,7 @@ def test_a_log_of_many_stations_is_split(tmp_path: Path) -> None:
     log += [row(time="2026-03-01T09:00:00Z", station="N0")]
     (tmp_path / "log").write_text("".join(line + "\n" for line in log))
     folder = tmp_path / "scripts"
-    words = [str(tmp_path / "log"), "--split", str(folder), "--period", "300"]
+    words = [str(tmp_path / "log"), "--split", str(folder), "--period", "300", "--no-received"]
     assert convert(read_words(words)) == Status.DONE
     assert sorted(path.name for path in folder.iterdir()) == ["1.script", "2.script"]
     north, south = ((folder / f"{n}.script").read_text() for n in (1, 2))

@@ -178,7 +178,8 @@ def test_scripts_that_are_split_have_what_came(tmp_path: Path) -> None:
         for n in range(65)
     ]
     (tmp_path / "log.gz").write_bytes(gzip.compress("\n".join(rows).encode()))
-    words = ["--split", str(tmp_path / "out"), "--mend", "s64=text-value", str(tmp_path / "log.gz")]
+    words = ["--no-received", "--split", str(tmp_path / "out")]
+    words += ["--mend", "s64=text-value", str(tmp_path / "log.gz")]
     assert log_to_script.convert(read_words(words)) == Status.DONE
     texts = [path.read_text() for path in sorted((tmp_path / "out").iterdir())]
     (has,) = (text for text in texts if "# mended" in text)

@@ -93,6 +93,7 @@ class Renewer:
         if found:
             self.pages += self.writer.write_changed(found)
             self.write_tables(found, rows)
+        self.pages += self.writer.write_new_closings()
         if found or now > self.mark + LATE / 2:
             self.note_seen(now)
             self.write_mark(now)

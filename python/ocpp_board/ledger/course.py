@@ -1,9 +1,10 @@
 """What is known of a transaction as far as its lines came: it goes on with what comes behind them."""
 
 from collections.abc import Sequence
+from math import gcd
 from typing import NamedTuple
 
-from ocpp_board.ledger.answers import Lists
+from ocpp_board.ledger.answers import Figures, Lists
 from ocpp_board.ledger.events import History, LiveEvents
 from ocpp_board.ledger.findings import Doubts, name_order_option
 from ocpp_board.ledger.periods import Spans
@@ -11,34 +12,33 @@ from ocpp_board.messages.bills import NOTHING, Details, Signed
 from ocpp_board.messages.transactions import Event
 from ocpp_board.records import DELIVER, Line, Rules
 
-# Readings of one message that count, at most, and the least bytes of one.
-MOST_OF_A_MESSAGE, LEAST_READING = 1_024, 11
+# Bytes that are known of a line beside its text, about.
+BYTES_OF_A_LINE = 1_500
+# The least bytes of a reading.
+LEAST_READING = 11
 
 
-class Room(NamedTuple):
-    """What a script has to keep of lines: their events and readings, at most, and their characters."""
+class Block(NamedTuple):
+    """Lines as a script has them, how many they are, and the readings that they have at most."""
 
-    events: int = 0
+    text: str = ""
+    lines: int = 0
     readings: int = 0
-    size: int = 0
 
-    def add(self, lines: Sequence[Line]) -> "Room":
+    def add(self, lines: Sequence[Line]) -> "Block":
         """With further lines."""
-        events, readings, size = self
-        for line in lines:
-            text = line.text
-            size += len(text)
-            if text.startswith(DELIVER):
-                events += 1
-                readings += count_readings(text)
-        return Room(events, readings, size)
+        text = "".join([f"{line.text}\n" for line in lines])
+        if "\\" in text:
+            readings = len(text) // LEAST_READING
+        else:
+            readings = text.count('"value"')
+        if "\r\n" in text:
+            # The program drops one carriage return before a line feed: a message's own stays.
+            text = text.replace("\r\n", "\r\r\n")
+        return Block(self.text + text, self.lines + len(lines), self.readings + readings)
 
 
-def count_readings(text: str) -> int:
-    """How many readings a text has, at most."""
-    if "\\" in text:
-        return min(MOST_OF_A_MESSAGE, len(text) // LEAST_READING + 1)
-    return min(MOST_OF_A_MESSAGE, text.count('"value"'))
+NO_LINES = Block()
 
 
 class Facts:
@@ -53,11 +53,19 @@ class Facts:
         self.token, self.remote_start = NOTHING, ""
         self.signed: list[Signed] = []
         self.keys: list[str] = []
+        # The last number, and the greatest step by which all numbers rise.
+        self.number: int | None = None
+        self.bounds = 0
+        self.step = 0
 
     def take_events(self, events: Sequence[Event], is_first: bool) -> None:
         """Takes further events in their order. `is_first`: there was none before."""
         for place, event in enumerate(events):
+            if self.number is not None:
+                self.step = gcd(self.step, event.number - self.number)
+            self.number = event.number
             if event.kind != "Updated":
+                self.bounds += 1
                 self.is_misplaced = self.is_misplaced or place > 0 or not is_first
                 if event.kind == "Ended":
                     self.ended = event
@@ -65,6 +73,23 @@ class Facts:
                     self.started = event
             if event.details is not NOTHING:
                 self.take_details(event.details)
+
+    def find_step(self, figures: Figures) -> int:
+        """The step of more than 1 by which a session counts that lacks nothing else; 0 where it does not."""
+        if (
+            self.step < 2
+            or self.started is None
+            or self.ended is None
+            or self.is_misplaced_but_end()
+        ):
+            return 0
+        is_whole = figures.last - figures.first == self.step * (figures.events - 1)
+        return self.step if is_whole and figures.events > 2 else 0
+
+    def is_misplaced_but_end(self) -> bool:
+        """Whether the end has not the last number, or the session begins or ends more than once."""
+        assert self.ended is not None
+        return self.ended.number != self.number or self.bounds > 2
 
     def take_details(self, details: Details) -> None:
         """Takes what an event has for a bill."""
@@ -89,12 +114,19 @@ class Course:
     """What is known of the lines of a transaction, and of what the program lists of them."""
 
     def __init__(self, site: str, rules: Rules) -> None:
-        self.rules, self.count = rules, 0
-        self.room, self.history = Room(), History()
+        self.rules, self.block, self.history = rules, NO_LINES, History()
         self.lists = Lists([], [], [])
-        self.events, self.facts, self.spans = LiveEvents(), Facts(), Spans(rules.period)
+        self.events, self.facts, self.spans = (
+            LiveEvents(),
+            Facts(),
+            Spans(rules.period, rules.reading_within),
+        )
         by_sequence = None if rules.order == "moment" else name_order_option(site)
-        self.doubts = Doubts(by_sequence, rules.most_kw)
+        self.doubts = Doubts(by_sequence, rules)
+
+    def measure(self) -> int:
+        """About how many bytes this and the lines take."""
+        return 2 * len(self.block.text) + BYTES_OF_A_LINE * self.block.lines + 1_000
 
     def goes_on(self, lines: Sequence[Line], lists: Lists, rules: Rules) -> bool:
         """Whether further lines leave what is known as it is, by these lists of the program."""
@@ -106,8 +138,7 @@ class Course:
 
     def take(self, lines: Sequence[Line], lists: Lists) -> None:
         """Takes further lines, and what these lists have behind those of the lines before."""
-        self.count += len(lines)
-        self.room = self.room.add(lines)
+        self.block = self.block.add(lines)
         self.history.take(lines)
         new = Lists(*(now[len(known) :] for now, known in zip(lists, self.lists)))
         self.lists = lists

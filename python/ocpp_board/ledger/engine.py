@@ -41,7 +41,7 @@ from ocpp_board.ledger.refusals import (
     name_cause,
     read_levels,
 )
-from ocpp_board.ledger.rows import Done, Work, list_accepted, work_out
+from ocpp_board.ledger.rows import Done, Work, work_out
 from ocpp_board.limits import FIRST_MOMENT
 from ocpp_board.messages.texts import is_unanswered, one_line
 from ocpp_board.messages.times import SECOND
@@ -115,7 +115,7 @@ class Batch:
 Foreseen = dict[Key, tuple[Work, Done]]
 
 
-class Piece(NamedTuple):
+class Share(NamedTuple):
     """The transactions that a process works on."""
 
     keys: list[Key]
@@ -483,21 +483,21 @@ def work_on(
         for (key, work), done in zip(some.items(), work_out(find_program(), some.values())):
             yield key, work, done
         return
-    pieces = list(part_pieces(some))
+    pieces = list(part_works(some))
     for piece, found in zip(pieces, pool.imap(work_piece, (piece.works for piece in pieces))):
         yield from zip(piece.keys, piece.works, found)
 
 
-def part_pieces(works: dict[Key, Work]) -> Iterator[Piece]:
+def part_works(works: dict[Key, Work]) -> Iterator[Share]:
     """Works in pieces for the processes of a pool."""
-    piece, size = Piece([], []), 0
+    piece, size = Share([], []), 0
     for key, work in works.items():
         piece.keys.append(key)
         piece.works.append(work)
         size += sum(len(line.text) for line in (*work.stored, *work.new))
         if size > BYTES_AT_ONCE:
             yield piece
-            piece, size = Piece([], []), 0
+            piece, size = Share([], []), 0
     if piece.keys:
         yield piece
 
@@ -511,33 +511,52 @@ def take_answers(
     store: Database, batch: Batch, work: Work, done: Done, held: Held, deeds: dict[int, Answer]
 ) -> None:
     """Notes the answers to a transaction's lines."""
-    key, taken = (work.station, work.transaction), set[int]()
-    waiting = {row.digest for row in held.refusals}
+    key = work.station, work.transaction
     places = batch.sessions[key]
     if deeds:
         places = [place for place in places if place not in deeds]
+    batch.answers.update(zip(places, done.answers))
     for place, answer in zip(places, done.answers):
-        batch.answers[place] = answer
         one = batch.asked[place]
         if isinstance(one, Deed):
             write_deed(store, one, answer)
-        elif not isinstance(one, Message):
-            continue
-        elif answer.outcome in ("accepted", "repeat"):
-            taken.add(batch.wishes[place].number)
-            if one.came:
-                digest = digest_text(keep_text(one.came))
-                batch.decided.append(Decided(one.station, digest, MENDED))
-            elif waiting and (digest := digest_text(keep_text(one.text))) in waiting:
-                batch.decided.append(Decided(one.station, digest, TAKEN))
-        elif answer.outcome in ("refused", "fault"):
+        elif isinstance(one, Message) and answer.outcome in ("refused", "fault"):
             refusal = describe_message(one.text, answer.name, one.received)
             batch.refusals.append((one, refusal, key[1]))
-    untaken = [row for row in held.refusals if row.cause == UNTAKEN and row.number in taken]
+    if held.refusals or batch.mended:
+        taken = [
+            place
+            for place, answer in zip(places, done.answers)
+            if answer.outcome in ("accepted", "repeat")
+        ]
+        note_decided(batch, held, taken)
+        forget_untaken(store, batch, held, taken, key[0])
+
+
+def note_decided(batch: Batch, held: Held, taken: Iterable[int]) -> None:
+    """Notes texts that waited for a decision and are taken by now."""
+    waiting = {row.digest for row in held.refusals}
+    for place in taken:
+        one = batch.asked[place]
+        if not isinstance(one, Message):
+            continue
+        if one.came:
+            digest = digest_text(keep_text(one.came))
+            batch.decided.append(Decided(one.station, digest, MENDED))
+        elif waiting and (digest := digest_text(keep_text(one.text))) in waiting:
+            batch.decided.append(Decided(one.station, digest, TAKEN))
+
+
+def forget_untaken(
+    store: Database, batch: Batch, held: Held, taken: Iterable[int], station: str
+) -> None:
+    """Removes what no source could take of events that came by now."""
+    numbers = {batch.wishes[place].number for place in taken if place in batch.wishes}
+    untaken = [row for row in held.refusals if row.cause == UNTAKEN and row.number in numbers]
     if untaken:
         store.execute_each(
             "delete from refusal where station = :station and cause = :cause and digest = :digest",
-            [{"station": key[0], "cause": row.cause, "digest": row.digest} for row in untaken],
+            [{"station": station, "cause": row.cause, "digest": row.digest} for row in untaken],
         )
 
 
@@ -549,9 +568,10 @@ def write_rows(writer: Writer, work: Work, held: Held, done: Done) -> Kept | Non
             writer.drop_empty(key)
         return held.kept
     findings = [(one.kind.label, one.times, one.first, one.detail) for one in done.rows.findings]
-    accepted = list_accepted(work, done.answers)
+    session, parts, _ = done.rows
+    size = done.course.measure() if done.course else 0
     return writer.add(
-        key, Written(held, accepted, done.rows.session, done.rows.parts, findings, done.course)
+        key, Written(held, done.accepted, session, parts, findings, done.course, size)
     )
 
 

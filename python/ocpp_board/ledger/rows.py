@@ -12,9 +12,9 @@ from typing import NamedTuple
 from ocpp_board.energies import Flow
 from ocpp_board.errors import ProgramError, StoreError
 from ocpp_board.ledger.answers import AnswerReader, BoardPart, Figures, read_answer
-from ocpp_board.ledger.course import Course, Room
+from ocpp_board.ledger.course import NO_LINES, Block, Course
 from ocpp_board.ledger.events import Counted, History, read_conflict
-from ocpp_board.ledger.findings import Finding
+from ocpp_board.ledger.findings import Effect, Finding
 from ocpp_board.ledger.periods import SURE, Doubt, Doubts, Gaps, find_holes
 from ocpp_board.ledger.program import Program
 from ocpp_board.limits import LONGEST_SCRIPT, MOST_READINGS, MOST_SITES, MOST_STATIONS
@@ -27,6 +27,8 @@ MOST_BYTES = 8 * 1_048_576
 # Moments that have their values kept, since many periods begin at the same.
 KEPT_MOMENTS = 65_536
 CONFLICT, NO_FLOW = "ConflictingEvent", Flow()
+# What the answers to accepted messages begin with, as many as were needed.
+MARKS: list[str] = []
 
 
 class Session(NamedTuple):
@@ -65,6 +67,10 @@ class Session(NamedTuple):
     boundary_moments: int
     first_boundary_at: datetime | None
     received_until: datetime | None
+    energy_measured: str
+    first_reading_at: datetime | None
+    last_reading_at: datetime | None
+    peak_w: int
 
 
 class Part(NamedTuple):
@@ -107,10 +113,11 @@ class Work(NamedTuple):
 
 
 class Done(NamedTuple):
-    """The answers to the new lines of a work, and its rows after them, with what is known of its lines then; None where
-    nothing changed."""
+    """The answers to the new lines of a work, those that were accepted, and its rows after them, with what is known of
+    its lines then; None where nothing changed."""
 
     answers: list[Answer]
+    accepted: list[Line]
     rows: Rows | None
     course: Course | None = None
 
@@ -146,29 +153,46 @@ def work_out(program: Program, works: Iterable[Work]) -> Iterator[Done]:
 
 def read_answers(work: Work, reader: AnswerReader) -> list[Answer]:
     """The answers to a transaction's new lines; its stored ones have to be accepted. Raises StoreError."""
-    for line, answer in zip(work.stored, reader.read_some(len(work.stored))):
-        wanted = f"accepted {line.number}"
-        if not answer.startswith(wanted) or answer[len(wanted) : len(wanted) + 1].strip():
-            where = f"line {line.number} of transaction {work.transaction} of {work.station}"
-            raise StoreError(f"{where} is answered {answer[:80]!r}: the store is damaged")
+    stored = reader.read_some(len(work.stored))
+    are_whole = not stored or work.stored[-1].number == len(stored)
+    if not are_whole or not all(map(str.startswith, stored, write_marks(len(stored)))):
+        for line, answer in zip(work.stored, stored):
+            mark = f"accepted {line.number}"
+            if answer != mark and not answer.startswith(f"{mark} "):
+                where = f"line {line.number} of transaction {work.transaction} of {work.station}"
+                raise StoreError(f"{where} is answered {answer[:80]!r}: the store is damaged")
     new = reader.read_some(len(work.new))
     return [read_answer(answer, work.transaction) for answer in new]
+
+
+def write_marks(count: int) -> list[str]:
+    """What the answers to so many messages begin with at least that are accepted one after the other."""
+    MARKS.extend(f"accepted {number} " for number in range(len(MARKS) + 1, count + 1))
+    return MARKS
 
 
 def finish_work(work: Work, answers: list[Answer], board: BoardPart, reader: AnswerReader) -> Done:
     """What became of a transaction's new lines, and its rows. The reader is before its two lists."""
     lists = reader.read_lists()
-    accepted, conflicts = list_accepted(work, answers), dict.fromkeys(work.conflicts)
+    accepted, conflicts = list_accepted(work, answers), work.conflicts
+    if len(accepted) < len(work.new):
+        conflicts = add_conflicts(work, answers)
+    if not accepted and len(conflicts) == len(work.conflicts) and not work.has_rows:
+        return Done(answers, accepted, None)
+    course, lines = work.course, accepted
+    if course is None or not course.goes_on(accepted, lists, work.rules):
+        course, lines = Course(work.site, work.rules), [*work.stored, *accepted]
+    course.take(lines, lists)
+    return Done(answers, accepted, make_rows(work, course, board, conflicts), course)
+
+
+def add_conflicts(work: Work, answers: Sequence[Answer]) -> list[str]:
+    """The lines that conflict with a transaction's events, with those that are new."""
+    conflicts = dict.fromkeys(work.conflicts)
     for line, answer in zip(work.new, answers):
         if answer.name == CONFLICT and line.text.startswith(DELIVER):
             conflicts[line.text] = None
-    if not accepted and len(conflicts) == len(work.conflicts) and not work.has_rows:
-        return Done(answers, None)
-    course = work.course
-    if course is None or not course.goes_on(accepted, lists, work.rules):
-        course, accepted = Course(work.site, work.rules), [*work.stored, *accepted]
-    course.take(accepted, lists)
-    return Done(answers, make_rows(work, course, board, list(conflicts)), course)
+    return list(conflicts)
 
 
 def list_accepted(work: Work, answers: Sequence[Answer]) -> list[Line]:
@@ -183,88 +207,94 @@ def list_accepted(work: Work, answers: Sequence[Answer]) -> list[Line]:
 # Scripts --------------------------------------------------------------------------------------------------------------
 
 
-class Measured(NamedTuple):
-    """A work with what a script has to keep for it: its rules' limits, or what its lines can have, if that is less."""
+class Piece(NamedTuple):
+    """A work with its stored lines and its new ones as a script has them."""
 
     work: Work
-    events: int
-    readings: int
-    size: int
+    stored: Block
+    new: Block
 
+    @property
+    def size(self) -> int:
+        """About how many bytes it has."""
+        return len(self.stored.text) + len(self.new.text)
 
-def measure(work: Work) -> Measured:
-    """A work with what a script has to keep for it."""
-    room = work.course.room if work.course else Room().add(work.stored)
-    events, readings, size = room.add(work.new)
-    limits = work.rules.limits
-    return Measured(
-        work, max(min(limits.events, events), 1), max(min(limits.readings, readings), 1), size
-    )
+    @property
+    def room(self) -> tuple[int, int]:
+        """The events and readings that a script keeps for it: as many as its rules have, or as its lines can have, if
+        that is less."""
+        limits = self.work.rules.limits
+        events = min(limits.events, self.stored.lines + self.new.lines)
+        return max(events, 1), max(
+            min(limits.readings, self.stored.readings + self.new.readings), 1
+        )
 
-
-def part_works(works: Iterable[Work]) -> Iterator[list[Measured]]:
-    """Works in lists that a script has room for, each with a station of its own."""
-    some, readings, size = list[Measured](), 0, 0
-    stations, kinds = set[str](), set[Kind]()
-    for one in map(measure, works):
-        station, kind = one.work.station, name_kind(one)
-        if (
-            station in stations
-            or len(some) == MOST_STATIONS
-            or some
-            and (readings + one.readings > MOST_READINGS or size + one.size > MOST_BYTES)
-            or kind not in kinds
-            and len(kinds) == MOST_SITES
-        ):
-            yield some
-            some, readings, size = [], 0, 0
-            stations, kinds = set(), set()
-        some.append(one)
-        readings, size = readings + one.readings, size + one.size
-        stations.add(station)
-        kinds.add(kind)
-    if some:
-        yield some
+    @property
+    def kind(self) -> "Kind":
+        """What its site decides of a board."""
+        rules = self.work.rules
+        return rules.period, rules.order, rules.settle
 
 
 # What a site decides of a board.
 Kind = tuple[int, str, str]
 
 
-def name_kind(one: Measured) -> Kind:
-    """What the work's site decides of a board."""
-    rules = one.work.rules
-    return rules.period, rules.order, rules.settle
+def make_piece(work: Work) -> Piece:
+    """The piece of a script that is a work's."""
+    stored = work.course.block if work.course else NO_LINES.add(work.stored)
+    return Piece(work, stored, NO_LINES.add(work.new))
 
 
-def group_by_rules(works: Iterable[Measured]) -> dict[Kind, list[Measured]]:
-    """Works by what their sites decide of a board."""
-    found = dict[Kind, list[Measured]]()
-    for one in works:
-        found.setdefault(name_kind(one), []).append(one)
+def part_works(works: Iterable[Work]) -> Iterator[list[Piece]]:
+    """Works in lists that a script has room for, each with a station of its own."""
+    some, readings, size = list[Piece](), 0, 0
+    stations, kinds = set[str](), set[Kind]()
+    for one in map(make_piece, works):
+        station, own = one.work.station, one.room[1]
+        if (
+            station in stations
+            or len(some) == MOST_STATIONS
+            or some
+            and (readings + own > MOST_READINGS or size + one.size > MOST_BYTES)
+            or one.kind not in kinds
+            and len(kinds) == MOST_SITES
+        ):
+            yield some
+            some, readings, size = [], 0, 0
+            stations, kinds = set(), set()
+        some.append(one)
+        readings, size = readings + own, size + one.size
+        stations.add(station)
+        kinds.add(one.kind)
+    if some:
+        yield some
+
+
+def group_by_rules(pieces: Iterable[Piece]) -> dict[Kind, list[Piece]]:
+    """Pieces by what their sites decide of a board."""
+    found = dict[Kind, list[Piece]]()
+    for one in pieces:
+        found.setdefault(one.kind, []).append(one)
     return found
 
 
-def write_script(works: Sequence[Measured]) -> bytes:
+def write_script(pieces: Sequence[Piece]) -> bytes:
     """A script of transactions of different stations: their lines, then the boards, then the lists."""
-    sites, lines = group_by_rules(works), list[str]()
+    sites, texts = group_by_rules(pieces), list[str]()
     for site, ((period, order, settle), some) in enumerate(sites.items()):
         for one in some:
-            lines.append(f"limits 1 {one.events} {one.readings} {2**63}")
-            lines.append(f"station s{site} {one.work.station}")
-        lines += [f"period s{site} {period}", f"order s{site} {order}", f"settle s{site} {settle}"]
-    for one in works:
-        lines += [line.text for line in one.work.stored]
-        lines += [line.text for line in one.work.new]
-    lines += [f"board s{site}" for site in range(len(sites))]
-    for one in works:
-        lines.append(f"events {one.work.station} {one.work.transaction}")
-        lines.append(f"readings {one.work.station} {one.work.transaction}")
-    script = "\n".join([*lines, ""])
-    if "\r\n" in script:
-        # The program drops one carriage return before a line feed: a message's own stays.
-        script = script.replace("\r\n", "\r\r\n")
-    data = script.encode()
+            events, readings = one.room
+            texts.append(f"limits 1 {events} {readings} {2**63}\n")
+            texts.append(f"station s{site} {one.work.station}\n")
+        texts.append(f"period s{site} {period}\norder s{site} {order}\nsettle s{site} {settle}\n")
+    for one in pieces:
+        texts += [one.stored.text, one.new.text]
+    texts += [f"board s{site}\n" for site in range(len(sites))]
+    for one in pieces:
+        name = f"{one.work.station} {one.work.transaction}"
+        texts.append(f"events {name}\nreadings {name}\n")
+    data = "".join(texts).encode()
     if len(data) > LONGEST_SCRIPT:
         raise ProgramError(f"a transaction has more than {LONGEST_SCRIPT:,} bytes of lines")
     return data
@@ -279,10 +309,15 @@ def make_rows(work: Work, course: Course, board: BoardPart, conflicts: Sequence[
     gaps = board.gaps.get(work.transaction, [])
     lost = leave_voided(gaps, course.history)
     findings = course.doubts.find(
-        course.events, list(map(read_conflict, conflicts)), figures is not None and figures.complete
+        course.events,
+        list(map(read_conflict, conflicts)),
+        figures is not None and figures.complete,
+        course.spans.of_readings,
     )
     session = make_session(work.transaction, course, board, gaps, lost)
-    return Rows(session, make_parts(board, course.spans.find_doubts(course.events, lost)), findings)
+    is_wrong = any(one.kind.effect is Effect.WRONG for one in findings)
+    doubts = course.spans.find_doubts(course.events, lost)
+    return Rows(session, make_parts(board, doubts, is_wrong), findings)
 
 
 def make_session(
@@ -293,9 +328,10 @@ def make_session(
     history, events, spans, facts = course.history, course.events, course.spans, course.facts
     holes = list(find_holes(events, lost))
     first_at, last_at = spans.of_events or (None, None)
+    first_read, last_read = spans.of_readings or (None, None)
     signed = facts.list_signed()
     return Session(
-        course.count,
+        course.block.lines,
         figures.evse if figures else 0,
         total.events,
         total.voided,
@@ -323,6 +359,10 @@ def make_session(
         spans.boundaries,
         to_moment(spans.first_boundary),
         history.received_until,
+        course.doubts.name_measured(spans.of_readings),
+        to_moment(first_read),
+        to_moment(last_read),
+        round(course.doubts.peak * 1_000),
     )
 
 
@@ -365,6 +405,8 @@ def name_state(figures: Figures, course: Course) -> str:
     voids = {number: history.voids[number] for number in sorted(history.voids)}
     if figures.complete:
         return "complete"
+    if step := course.facts.find_step(figures):
+        return f"complete, numbers in steps of {step}"
     if figures.missing:
         inside = [one for number, one in voids.items() if figures.first < number < figures.last]
         if not inside:
@@ -381,11 +423,17 @@ def name_state(figures: Figures, course: Course) -> str:
     return f"{name_voiders(ends)}: {state.removesuffix(' yet')}" if ends else state
 
 
-def make_parts(board: BoardPart, doubts: Doubts) -> list[Part]:
-    """The rows of a transaction's periods: those that its board shows, and those that are doubtful."""
+def make_parts(board: BoardPart, doubts: Doubts, is_wrong: bool) -> list[Part]:
+    """The rows of a transaction's periods: those that its board shows, and those that are doubtful. `is_wrong`: a
+    number of the transaction is wrong, so none of its periods is measured."""
     flows = board.periods
     starts = sorted({*flows, *doubts}) if doubts else flows
-    return [make_part(start, flows.get(start), doubts.get(start, SURE)) for start in starts]
+    found = [make_part(start, flows.get(start), doubts.get(start, SURE)) for start in starts]
+    return (
+        [one._replace(measured=False, shared=one.shared or 0) for one in found]
+        if is_wrong
+        else found
+    )
 
 
 def make_part(start: int, flow: Flow | None, doubt: Doubt) -> Part:

@@ -13,6 +13,8 @@ from ocpp_board.energies import Flow
 from ocpp_board.store.database import Database, count_days
 from ocpp_board.writers.pages.facts import (
     AnsweredDeed,
+    Closing,
+    Correction,
     Found,
     Lack,
     Period,
@@ -20,6 +22,7 @@ from ocpp_board.writers.pages.facts import (
     SessionFacts,
     SessionLine,
     SessionRecord,
+    Settled,
     Site,
     Totals,
 )
@@ -38,6 +41,10 @@ SESSION = (
 )
 REFUSED = "station, transaction_id, sent_number, cause, what, advice, times, first_at, last_at"
 DEED = "station, transaction_id, number, word, who, why, at, outcome, name"
+CLOSING = (
+    "closing, day, at, who, period, reading_order, settle, zone, sessions, complete_sessions, rule_sessions, net, "
+    "corrections, corrected"
+)
 LINE, LINE_COLUMNS = "number, received, line, who, why, origin", 6
 # Lines and refusals of a transaction that are read.
 MOST_LINES, MOST_REFUSED = 600, 200
@@ -213,26 +220,23 @@ class Reader:
     def next_moment(self, site: str, station: str | None, since: datetime) -> datetime | None:
         """The first moment from one on at which a session of a site or of a station began or ended; None where there is
         none."""
-        found = list[datetime]()
-        for name in ("first_at", "last_at"):
-            sql = (
-                f"select min({name}) as {name} from session where site = :site and {name} >= :since"
-            )
-            rows = self.read_of(sql, site, station, "", since=since)
-            found += [rows[0][0]] if rows[0][0] is not None else []
-        return min(found, default=None)
+        values = {"since": since, "day": count_days(since)}
+        first = "select first_at as at from session where site = :site and first_at >= :since"
+        last = "select last_at as at from session where site = :site and last_day >= :day and last_at >= :since"
+        rows = self.read_of(first, site, station, " order by first_at limit 1", since=since)
+        rows += self.read_of(last, site, station, " order by last_day, last_at limit 1", **values)
+        return min((row[0] for row in rows), default=None)
 
     def moment_before(self, site: str, station: str | None, until: datetime) -> datetime | None:
         """The last moment before one at which a session of a site or of a station began or ended; None where there is
         none."""
-        found = list[datetime]()
-        for name in ("first_at", "last_at"):
-            sql = (
-                f"select max({name}) as {name} from session where site = :site and {name} < :until"
-            )
-            rows = self.read_of(sql, site, station, "", until=until)
-            found += [rows[0][0]] if rows[0][0] is not None else []
-        return max(found, default=None)
+        values = {"until": until, "day": count_days(until)}
+        first = "select first_at as at from session where site = :site and first_at < :until"
+        last = "select last_at as at from session where site = :site and last_day <= :day and last_at < :until"
+        rows = self.read_of(first, site, station, " order by first_at desc limit 1", until=until)
+        end = " order by last_day desc, last_at desc limit 1"
+        rows += self.read_of(last, site, station, end, **values)
+        return max((row[0] for row in rows), default=None)
 
     def station_moments(self, site: str, station: str) -> Iterator[datetime]:
         """The moments at which the sessions of a station began and ended."""
@@ -439,6 +443,44 @@ class Reader:
             tx=transaction_id,
         )
         return int(rows[0][0])
+
+    # Closings ---------------------------------------------------------------------------------------------------------
+
+    def closings(self, site: str, count: int, skipped: int = 0) -> list[Closing]:
+        """The closings of a site, the latest first."""
+        sql = f"select {CLOSING} from closing_sum where site = :site order by closing desc limit :count offset :skipped"
+        rows = self.store.fetch(sql, site=site, count=count, skipped=skipped)
+        return [Closing(*row) for row in rows]
+
+    def closing(self, site: str, number: int) -> Closing | None:
+        """A closing of a site; None where there is no such one."""
+        sql = f"select {CLOSING} from closing_sum where site = :site and closing = :number"
+        rows = self.store.fetch(sql, site=site, number=number)
+        return Closing(*rows[0]) if rows else None
+
+    def last_closings(self) -> dict[str, int]:
+        """The number of each site's last closing."""
+        rows = self.store.fetch("select site, max(closing) as closing from closing group by site")
+        return {row[0]: int(row[1]) for row in rows}
+
+    def corrections(self, site: str, number: int, count: int) -> list[Correction]:
+        """What a closing changed of what one before had settled."""
+        sql = (
+            "select station, transaction_id, starts, net, first_line, last_line from correction "
+            "where site = :site and closing = :number order by station, transaction_id, starts limit :count"
+        )
+        rows = self.store.fetch(sql, site=site, number=number, count=count)
+        return [Correction(*row) for row in rows]
+
+    def settled_sessions(self, site: str, number: int, count: int) -> list[Settled]:
+        """The sessions that a closing settled."""
+        sql = (
+            f"select station, transaction_id, settled, {FLOWS}, lines from closed_session "
+            "where site = :site and closing = :number and settled is not null "
+            "order by station, transaction_id limit :count"
+        )
+        rows = self.store.fetch(sql, site=site, number=number, count=count)
+        return [Settled(row[0], row[1], row[2], make_flow(row, 3), row[7]) for row in rows]
 
     def count_strays(self) -> int:
         """How many messages came of stations that no site has."""
