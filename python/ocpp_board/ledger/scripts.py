@@ -112,6 +112,26 @@ def part_scripts(
         yield script
 
 
+def join_scripts(rows: Iterable[Row], order: str) -> Iterator[tuple[Script, int]]:
+    """Scripts of a site's transactions, each with how many lines it has. Each row has all lines of a transaction as one
+    text, and how many they are."""
+    script, count = Script(order), 0
+    for row in rows:
+        # The program drops one carriage return before a line feed: a message's own stays.
+        text = f"{row.text}\n".replace("\r\n", "\r\r\n")[:-1]
+        if "\\" in text:
+            readings = sum(map(count_readings, text.split("\n")))
+        else:
+            readings = text.count('"value"')
+        if not script.takes(row.station, row.lines, readings, len(text)):
+            yield script, count
+            script, count = Script(order), 0
+        script.add(row.station, [text], row.lines, readings)
+        count += row.lines
+    if script.lines:
+        yield script, count
+
+
 def write_line(row: Row) -> Iterator[str]:
     """A stored line. The program drops one carriage return before a line feed: the message's own stays."""
     yield row.line + "\r" if row.line.endswith("\r") else row.line
