@@ -150,10 +150,17 @@ written_as() {
     local port=$((20000 + RANDOM % 10000))
     mkdir -p "$made/as_written"
     {
+        # A follower is ended by a signal once its pages are there.
+        echo "followed() {
+            rm -f $made/as_written/live/index.html
+            \"\$@\" & local follower=\$! waits=300
+            until [ -s $made/as_written/live/index.html ] || [ \$((waits -= 1)) = 0 ]; do sleep 1; done
+            sleep 3; kill -INT \$follower; wait \$follower
+        }"
         sed -n '/^```sh$/,/^```$/{/^```/!p}; s/^    //p' "$top/$1" | sed "/^\.\/start\|^\.ci\/run\|tests\/run\|packaging\/\|apt-get /d
             s|/tmp/|$made/as_written/|g; s/\b9000\b/$port/g; s/\b9100\b/$((port + 1))/g; s/\b9180\b/$((port + 2))/g
             s|crates/ocpp_board/out/ocpp_board|$program|
-            s|^python/ocpp-board follow|timeout -s INT --preserve-status 15 python/ocpp-board follow|"
+            s|^python/ocpp-board follow|followed python/ocpp-board follow|"
         # What was started in the background ends with the page.
         echo 'for job in $(jobs -p); do sleep 3; kill -0 $job && kill -INT $job || true; done; wait'
     } > "$made/written.sh"
@@ -168,31 +175,32 @@ written_as() {
 
 # The logs become scripts. That of the first day has other fields, and its messages are JSON.
 day_of_log=("$board" log-to-script --site-field location --station-field chargePoint --time-field at --message-field frame
-    --json-message --direction-field from --incoming station)
+    --json-message --direction-field from --incoming station --no-received)
 gives 0 "$days/day.jsonl.script" "${day_of_log[@]}" "$days/day.jsonl"
-gives 0 "$days/site_day.jsonl.script" "$board" log-to-script "$days/site_day.jsonl"
-gives 0 forms/ocpp.script "$board" log-to-script --form ocpp --site north --utc forms/ocpp.log
-gives 0 forms/maeve.script "$board" log-to-script --form maeve --stations forms/stations.txt --no-boards forms/maeve.mqtt
-citrineos=(--site north --site-map forms/sites.txt --limits 100 1000 2000 1000000)
+gives 0 "$days/site_day.jsonl.script" "$board" log-to-script --no-received "$days/site_day.jsonl"
+gives 0 forms/ocpp.script "$board" log-to-script --no-received --form ocpp --site north --utc forms/ocpp.log
+gives 0 forms/maeve.script "$board" log-to-script --no-received --form maeve --stations forms/stations.txt --no-boards \
+    forms/maeve.mqtt
+citrineos=(--no-received --site north --site-map forms/sites.txt --limits 100 1000 2000 1000000)
 gives 0 forms/citrineos.script "$board" log-to-script --form citrineos "${citrineos[@]}" forms/citrineos.jsonl
-gives 0 forms/periods.script "$board" log-to-script --form citrineos --site north --site-map forms/sites.txt --period 1800 \
+gives 0 forms/periods.script "$board" log-to-script --no-received --form citrineos --site north --site-map forms/sites.txt --period 1800 \
     --period north=300 forms/citrineos.jsonl
-gives 0 forms/orders.script "$board" log-to-script --form citrineos --site north --site-map forms/sites.txt --order moment \
+gives 0 forms/orders.script "$board" log-to-script --no-received --form citrineos --site north --site-map forms/sites.txt --order moment \
     --order north=sequence forms/citrineos.jsonl
 gives 0 "$days/repeats.script" "$one" traffic 3 repeats
 gives 0 forms/citrineos.script "$board" log-to-script --form citrineos-csv "${citrineos[@]}" forms/citrineos.csv
-gives 0 forms/arrows.script "$board" log-to-script --form arrows --site north forms/arrows.log
-gives 0 forms/regex.script "$board" log-to-script --received --incoming up \
+gives 0 forms/arrows.script "$board" log-to-script --no-received --form arrows --site north forms/arrows.log
+gives 0 forms/regex.script "$board" log-to-script --incoming up \
     --regex '^(?P<time>[0-9.]+)\|(?P<site>[^/]+)/(?P<station>[^|]+)\|(?P<direction>up|down)\|(?P<message>.*)' forms/regex.log
 gives 0 forms/nested.script "$board" log-to-script --time-field meta.at --site-field charger.site --station-field charger.id \
-    --protocol-field charger.version --message-field frame.raw --json-message forms/nested.jsonl
+    --no-received --protocol-field charger.version --message-field frame.raw --json-message forms/nested.jsonl
 
 # Compressed logs, one of them cut short, and words and lines that can't be taken.
 gzip -c "$days/day.jsonl" > "$made/day.jsonl.gz"
 gives 0 "$days/day.jsonl.script" "${day_of_log[@]}" "$made/day.jsonl.gz"
 head -c -100 "$made/day.jsonl.gz" > "$made/cut.gz"
 reports 1 "the gzip is cut short" "${day_of_log[@]}" "$made/cut.gz"
-gives 1 forms/mistakes.script "$board" log-to-script forms/mistakes.jsonl
+gives 1 forms/mistakes.script "$board" log-to-script --no-received forms/mistakes.jsonl
 reports 0 "a time has no offset from UTC (--utc takes such times as UTC); its message goes without a time" \
     "$board" log-to-script --form ocpp --site north forms/ocpp.log
 reports 1 "examples/day.jsonl line 58: neither this line nor one before it is of the form ocpp" "$board" log-to-script --form ocpp --site n "$days/day.jsonl"

@@ -4,15 +4,16 @@ from dataclasses import dataclass
 from datetime import datetime
 from typing import NamedTuple
 
-# The deeds of operators.
+# The deeds of operators, and how the line of a message begins.
 DEEDS = ("void", "restore", "erase")
+DELIVER = "deliver "
 
 
-@dataclass(frozen=True, slots=True)
-class Message:
+class Message(NamedTuple):
     """A text of a station. `origin`: where it is from, for errors and repeats, such as `csms.log:17`; `site`: the site
     that the source names, which the plan may not have. `mends`: the faults that were mended in it, and `came`: the text
-    as the station sent it, where some were."""
+    as the station sent it, where some were. `quota`: the one that its source found it above, by which it is refused.
+    """
 
     station: str
     text: str
@@ -21,10 +22,10 @@ class Message:
     site: str | None = None
     mends: str = ""
     came: str = ""
+    quota: str = ""
 
 
-@dataclass(frozen=True, slots=True)
-class Deed:
+class Deed(NamedTuple):
     """An operator's line. `word`: one of DEEDS; `number`: the event's sequence number."""
 
     word: str
@@ -37,8 +38,7 @@ class Deed:
     origin: str
 
 
-@dataclass(frozen=True, slots=True)
-class Untaken:
+class Untaken(NamedTuple):
     """What a source can't take: the line's text, the cause in words, and what to do. Texts are empty where they are
     not known. `cause`: the name under which it is listed."""
 
@@ -55,6 +55,23 @@ class Untaken:
 
 
 Asked = Message | Deed | Untaken
+
+
+class LeftOut(NamedTuple):
+    """A station whose messages are left out since they are of another version of OCPP: from when to when, where that is
+    known, and the site that the source names, which may be empty."""
+
+    station: str
+    version: str
+    site: str
+    first_at: datetime | None
+    last_at: datetime | None
+
+    def join(self, other: "LeftOut") -> "LeftOut":
+        """Both together."""
+        moments = [self.first_at, self.last_at, other.first_at, other.last_at]
+        some = [at for at in moments if at is not None]
+        return self._replace(first_at=min(some, default=None), last_at=max(some, default=None))
 
 
 @dataclass(slots=True)
@@ -85,7 +102,8 @@ class Limits:
 @dataclass(frozen=True, slots=True)
 class Rules:
     """A site's rules: the length of its periods in seconds, the order of readings, the rule of settling, what a
-    transaction may keep, the zone of its days, and the greatest power of an EVSE that can be, in kW.
+    transaction may keep, the zone of its days, the greatest power of an EVSE that can be, in kW, the seconds from a
+    start or an end within which it has its reading, and the Wh below which a register that falls has not fallen.
     """
 
     period: int = 900
@@ -94,6 +112,15 @@ class Rules:
     limits: Limits = Limits()
     zone: str = "UTC"
     most_kw: int = 400
+    reading_within: int = 300
+    resolution: int = 10
+
+
+class Quota(NamedTuple):
+    """A site's quotas for each of its stations: open transactions, and bytes a day; 0: any number."""
+
+    open: int = 0
+    bytes: int = 0
 
 
 class Line(NamedTuple):

@@ -110,7 +110,8 @@ def test_a_table_of_corrections(store: Database, store_name: str, tmp_path: Path
     send(store, "A", sound("t1", FIRST), sound("t2", FIRST + timedelta(days=1)))
     path = tmp_path / "c.csv"
     path.write_text("station,transaction,number,place,kwh\nA,t1,3,0,2\nA,t2,3,0,3.5\n", "utf-8")
-    words = ["correct", "--store", store_name, "--table", str(path), "--why", "read at the meter"]
+    words = ["operate", "--store", store_name, "correct", "--table", str(path)]
+    words += ["--why", "read at the meter"]
     assert "nothing is changed" in run(*words, "--preview").stdout
     assert [row.up for row in store.fetch("select up from session")] == [750_000] * 2
     made = run(*words)
@@ -212,10 +213,10 @@ def test_what_lacks_messages_is_listed(store: Database, store_name: str) -> None
     ("words", "said"),
     [
         (
-            ["correct", "A", "t1", "1", "--kwh", "1", "--why", "w"],
+            ["operate", "correct", "A", "t1", "1", "--kwh", "1", "--why", "w"],
             "name STATION TRANSACTION NUMBER PLACE",
         ),
-        (["correct", "A", "t1", "-1", "0", "--kwh", "1", "--why", "w"], "error"),
+        (["operate", "correct", "A", "t1", "-1", "0", "--kwh", "1", "--why", "w"], "error"),
         (["settlement", "--site", "south", "--month", "2026-03"], "no site 'south'"),
         (["lacking", "--hours", "x"], "no count from 1"),
     ],

@@ -2,6 +2,7 @@
 
 import os
 import pwd
+import select
 import shutil
 import signal
 import socket
@@ -9,13 +10,15 @@ import subprocess
 import sys
 import tempfile
 import time
-from collections.abc import Iterator
+from collections.abc import Iterator, Sequence
 from contextlib import contextmanager
 from pathlib import Path
 from typing import Self
 
 TOP = Path(__file__).resolve().parent.parent.parent
 BIN = Path("/usr/lib/postgresql/15/bin")
+# A file system in memory, and the bytes that it has to have free.
+MEMORY, ROOM = Path("/dev/shm"), 4 << 30
 # Seconds for what comes to be so, on a machine with much else to do.
 PATIENCE = 60.0
 
@@ -27,16 +30,19 @@ def find_port() -> int:
         return int(one.getsockname()[1])
 
 
-def make_folder(name: str) -> Path:
-    """A folder that goes with whoever made it."""
-    return Path(tempfile.mkdtemp(prefix=f"ocpp_board_{name}_"))
+def make_folder(name: str, is_durable: bool = True) -> Path:
+    """A folder for a server's files: on a disk, or in memory where what is committed needn't be on one. A database of a
+    store has a thousand files, and a busy disk takes minutes to remove those of many tests."""
+    is_roomy = MEMORY.is_dir() and shutil.disk_usage(MEMORY).free > ROOM
+    place = None if is_durable or not is_roomy else MEMORY
+    return Path(tempfile.mkdtemp(prefix=f"ocpp_board_{name}_", dir=place))
 
 
 class Cluster:
     """A server of PostgreSQL in a folder of its own, run by a user that is not root."""
 
     def __init__(self, folder: Path | None = None, is_durable: bool = True) -> None:
-        self.folder = folder or make_folder("postgres")
+        self.folder = folder or make_folder("postgres", is_durable)
         self.port, self.is_durable = find_port(), is_durable
         self.process: subprocess.Popen[bytes] | None = None
         self.user = pwd.getpwnam("postgres") if os.getuid() == 0 else pwd.getpwuid(os.getuid())
@@ -47,6 +53,7 @@ class Cluster:
         subprocess.run(
             list(map(str, command)),
             check=True,
+            timeout=2 * PATIENCE,
             stdout=subprocess.DEVNULL,
             user=self.user.pw_uid,
             group=self.user.pw_gid,
@@ -72,6 +79,8 @@ class Cluster:
             "synchronous_commit": durable,
             "full_page_writes": durable,
             "shared_buffers": "256MB",
+            # After a kill it else syncs each file by itself, which takes up to a quarter of a minute on a busy disk.
+            "recovery_init_sync_method": "syncfs",
         } | settings
         options = [word for key, value in words.items() for word in ("-c", f"{key}={value}")]
         with open(self.folder / "log", "ab") as log:
@@ -89,29 +98,37 @@ class Cluster:
         """Waits until it answers."""
         due = time.monotonic() + PATIENCE
         ask = [str(BIN / "pg_isready"), "-q", "-h", "127.0.0.1", "-p", str(self.port)]
-        while subprocess.run(ask, check=False).returncode:
-            if time.monotonic() > due:
-                raise TimeoutError((self.folder / "log").read_text()[-2000:])
+        while subprocess.run(ask, check=False, timeout=PATIENCE).returncode:
+            if time.monotonic() > due or not self.is_running:
+                log = (self.folder / "log").read_text()[-2000:]
+                raise TimeoutError(f"PostgreSQL does not answer; its log ends with:\n{log}")
             time.sleep(0.05)
+
+    @property
+    def is_running(self) -> bool:
+        """Whether its first process runs."""
+        return self.process is not None and self.process.poll() is None
 
     def kill(self) -> None:
         """Kills all of its processes, as a power cut does."""
         assert self.process
-        pids = [self.process.pid, *list_children(self.process.pid)]
-        for pid in pids:
-            try:
-                os.kill(pid, signal.SIGKILL)
-            except ProcessLookupError:
-                pass
-        self.process.wait()
-        due = time.monotonic() + 10
-        while any(Path(f"/proc/{pid}").exists() for pid in pids) and time.monotonic() < due:
+        # Stopped, it begins none that would be left over.
+        pids = [self.process.pid]
+        for number in (signal.SIGSTOP, signal.SIGKILL):
+            kill_all(pids, number)
+            if number == signal.SIGSTOP:
+                pids += list_children(self.process.pid)
+        self.process.wait(PATIENCE)
+        due = time.monotonic() + PATIENCE
+        while any(Path(f"/proc/{pid}").exists() for pid in pids):
+            if time.monotonic() > due:
+                raise TimeoutError(f"processes {pids} of PostgreSQL did not end")
             time.sleep(0.01)
         (self.data / "postmaster.pid").unlink(missing_ok=True)
 
     def stop(self) -> None:
         """Ends it."""
-        if self.process and self.process.poll() is None:
+        if self.process and self.is_running:
             self.process.send_signal(signal.SIGINT)
             try:
                 self.process.wait(20)
@@ -120,7 +137,8 @@ class Cluster:
 
     def remove(self) -> None:
         """Ends it, and removes its files."""
-        self.stop()
+        if self.is_running:
+            self.kill()  # To end it in order takes long on a busy disk, and serves nobody.
         shutil.rmtree(self.folder, ignore_errors=True)
 
     def name(self, database: str, user: str = "owner", port: int | None = None) -> str:
@@ -134,12 +152,22 @@ class Cluster:
             check=True,
             capture_output=True,
             text=True,
+            timeout=PATIENCE,
         ).stdout.strip()
 
     def create(self, database: str) -> str:
         """Makes a database, and gives its name as a store."""
         self.query("postgres", f"create database {database}")
         return self.name(database)
+
+
+def kill_all(pids: Sequence[int], number: int = signal.SIGKILL) -> None:
+    """Sends a signal to processes, of which some may be gone."""
+    for pid in pids:
+        try:
+            os.kill(pid, number)
+        except ProcessLookupError:
+            pass
 
 
 def list_children(pid: int) -> list[int]:
@@ -181,8 +209,23 @@ class Part:
             stderr=self.log,
             env=os.environ | {"PYTHONPATH": f"{TOP / 'python'}:{TOP}"} | environment,
         )
+        self.first = self.read_first()
+
+    def read_first(self) -> str:
+        """The first line that it prints. Raises TimeoutError."""
         assert self.process.stdout
-        self.first = self.process.stdout.readline().decode().strip()
+        output, line = self.process.stdout.fileno(), b""
+        due = time.monotonic() + PATIENCE
+        while not line.endswith(b"\n"):
+            is_there, _, _ = select.select([output], [], [], max(0.0, due - time.monotonic()))
+            if not is_there:
+                self.kill()
+                raise TimeoutError(f"{self.words} printed nothing; it logged:\n{self.read_log()}")
+            data = os.read(output, 4096)
+            if not data:
+                break
+            line += data
+        return line.decode().strip()
 
     @property
     def pid(self) -> int:
@@ -200,12 +243,8 @@ class Part:
 
     def kill(self) -> None:
         """Kills it with its processes."""
-        for pid in (self.pid, *list_children(self.pid)):
-            try:
-                os.kill(pid, signal.SIGKILL)
-            except ProcessLookupError:
-                pass
-        self.process.wait()
+        kill_all([self.pid, *list_children(self.pid)])
+        self.process.wait(PATIENCE)
 
     def stop(self) -> int:
         """Ends it, and gives its status."""

@@ -1,7 +1,9 @@
 """What the tests of gateways take: a PostgreSQL, stores in it and in files, with stations and their passwords."""
 
+import faulthandler
 import itertools
 import os
+import signal
 import sys
 from collections.abc import Callable, Iterator
 from datetime import datetime, timezone
@@ -18,6 +20,8 @@ TOP = Path(__file__).resolve().parent.parent.parent
 SITE = "depot"
 NUMBERS = itertools.count()
 Make = Callable[..., str]
+# Seconds for a test, on a machine with much else to do.
+LONGEST_TEST = 240.0
 
 
 @pytest.fixture(name="cluster", scope="session")
@@ -71,6 +75,23 @@ def fleet_maker(cluster: Cluster) -> Make:
         return fill_store(cluster.create(f"ledger_{os.getpid()}_{next(NUMBERS)}"), stations)
 
     return make
+
+
+@pytest.fixture(autouse=True)
+def limit_time(request: pytest.FixtureRequest) -> Iterator[None]:
+    """Ends a test that waits for ever, and says where it waits. What holds that up is ended, too, after a while."""
+
+    def end(*_words: object) -> None:
+        faulthandler.dump_traceback(sys.__stderr__)
+        raise TimeoutError(f"{request.node.name} takes more than {LONGEST_TEST:.0f} seconds")
+
+    before = signal.signal(signal.SIGALRM, end)
+    signal.setitimer(signal.ITIMER_REAL, LONGEST_TEST, LONGEST_TEST / 10)
+    try:
+        yield
+    finally:
+        signal.setitimer(signal.ITIMER_REAL, 0)
+        signal.signal(signal.SIGALRM, before)
 
 
 sys.setswitchinterval(0.01)

@@ -10,16 +10,16 @@ generator costs little beside what it measures. The status is 1 where a reply wa
 
 import argparse
 import asyncio
-import json
 import os
 import random
 import sys
 import time
+from asyncio import FIRST_COMPLETED
 from dataclasses import dataclass, field
 from typing import cast
 from urllib.parse import urlsplit
 
-from tests.gateway.client import PASSWORD, make_event, make_login
+from tests.gateway.client import BEGIN, PASSWORD, make_event, make_login
 
 # Seconds until a station that got no reply connects anew, and until one that lost its connection does so.
 PATIENCE, PAUSE = 60.0, 0.1
@@ -36,6 +36,12 @@ def make_frame(text: str) -> bytes:
     size = len(data)
     length = bytes((0x80 | size,)) if size < 126 else bytes((0x80 | 126, *size.to_bytes(2, "big")))
     return b"\x81" + length + b"\0\0\0\0" + data
+
+
+def make_sent(transaction: str, number: int, of: int, start: int) -> tuple[bytes, bytes]:
+    """An event as a frame, and the front of its reply."""
+    frame = make_frame(make_event(transaction, number, of, start))
+    return frame, f'[3,"{transaction}-{number}",'.encode()
 
 
 @dataclass
@@ -62,6 +68,8 @@ class Seen:
     waits: list[float] = field(default_factory=list)
     moments: list[float] = field(default_factory=list)
     again: int = 0
+    # Messages that had no reply for so long that the station ended its connection.
+    late: int = 0
     odd: list[str] = field(default_factory=list)
     connected: float = 0.0
     unanswered: int = 0
@@ -84,7 +92,7 @@ class Seen:
         return (
             f"{len(self.waits)} answered, {self.rate():.0f} a second, median / 99th / longest {self.wait(0.5):.0f} / "
             f"{self.wait(0.99):.0f} / {self.wait(1):.0f} ms, {self.again} sent again, {len(self.odd)} other replies, "
-            f"{self.unanswered} unanswered"
+            f"{self.late} without a reply for {PATIENCE:.0f} s, {self.unanswered} unanswered"
         )
 
 
@@ -130,17 +138,25 @@ class Station(asyncio.Protocol):
     def __init__(self, load: Load, number: int) -> None:
         plan = load.plan
         self.load, self.name, self.turn = load, f"L-{number}", number
+        # The last transaction ends about now, so that no clock is far from the time of receipt for long.
+        first = int(time.time() - BEGIN.timestamp()) - 60 * plan.events * plan.rounds
         self.rest = [
-            make_event(f"{self.name}.{plan.start}.{one}", k, plan.events, 86_400 * (one % 25))
+            make_sent(
+                f"{self.name}.{plan.start}.{one}", k, plan.events, first + 60 * plan.events * one
+            )
             for one in range(plan.rounds)
             for k in range(plan.events)
         ]
         self.rest.reverse()
         self.pause = plan.stations / plan.rate if plan.rate else 0.0
-        self.first = self.due = 0.0
+        # When the message that waits for its reply was sent first and last; 0 where none does.
+        self.first = self.sent = self.due = 0.0
+        # What sends the next message once it is due.
+        self.timer: asyncio.TimerHandle | None = None
         self.transport: asyncio.Transport | None = None
         self.buffer = bytearray()
         self.is_in = False
+        self.entered: asyncio.Future[None] = asyncio.get_running_loop().create_future()
         self.ended: asyncio.Future[None] = asyncio.get_running_loop().create_future()
 
     async def play(self) -> None:
@@ -151,7 +167,7 @@ class Station(asyncio.Protocol):
         while self.rest:
             url = urlsplit(plan.urls[self.turn % len(plan.urls)])
             self.turn += 1
-            self.ended = loop.create_future()
+            self.entered, self.ended = loop.create_future(), loop.create_future()
             self.buffer.clear()
             self.is_in = False
             try:
@@ -162,13 +178,25 @@ class Station(asyncio.Protocol):
                     login = make_login(self.name, plan.password)
                     head = HANDSHAKE.format(path=url.path, station=self.name, login=login)
                     self.transport.write(head.encode())
-                    while not self.is_in and not self.ended.done():
-                        await asyncio.sleep(0.005)
-                await self.ended
-            except OSError:
-                pass
+                    await asyncio.wait(
+                        [self.entered, self.ended], timeout=PATIENCE, return_when=FIRST_COMPLETED
+                    )
+                await self.wait_for_end()
+            except (OSError, TimeoutError):
+                if self.transport:
+                    self.transport.abort()
             if self.rest:
                 await asyncio.sleep(PAUSE)
+
+    async def wait_for_end(self) -> None:
+        """Waits until the connection ends. One whose message has no reply for too long is ended."""
+        while not self.ended.done():
+            await asyncio.wait([self.ended], timeout=PATIENCE / 4)
+            if not self.is_in:
+                raise TimeoutError
+            if self.sent and self.sent < time.monotonic() - PATIENCE and not self.ended.done():
+                self.load.seen.late += 1
+                raise TimeoutError
 
     def connection_made(self, transport: asyncio.BaseTransport) -> None:
         self.transport = cast(asyncio.Transport, transport)
@@ -189,6 +217,7 @@ class Station(asyncio.Protocol):
                 return
             del self.buffer[: end + 4]
             self.is_in = True
+            self.entered.set_result(None)
             if not self.first:
                 self.load.note_here()
             self.begin()
@@ -210,6 +239,8 @@ class Station(asyncio.Protocol):
     def begin(self) -> None:
         """Sends the first message over a connection."""
         loop = asyncio.get_running_loop()
+        if self.timer:
+            self.timer.cancel()
         if self.first:
             self.load.seen.again += 1
             self.send()
@@ -229,15 +260,16 @@ class Station(asyncio.Protocol):
         if self.pause:
             self.due = max(self.due + self.pause, now - 60) if self.due else now
             if self.due > now:
-                asyncio.get_running_loop().call_later(self.due - now, self.send)
+                self.timer = asyncio.get_running_loop().call_later(self.due - now, self.send)
                 return
         self.send()
 
     def send(self) -> None:
         """Sends the message that waits for its reply."""
         if self.rest and self.transport and self.is_in:
-            self.first = self.first or time.monotonic()
-            self.transport.write(make_frame(self.rest[-1]))
+            self.sent = time.monotonic()
+            self.first = self.first or self.sent
+            self.transport.write(self.rest[-1][0])
 
     def take(self, body: bytes) -> None:
         """A reply came."""
@@ -248,9 +280,9 @@ class Station(asyncio.Protocol):
         seen.moments.append(now)
         if now - self.first > seen.longest[0]:
             seen.longest = (now - self.first, self.name)
-        if not body.startswith(b'[3,"') or json.loads(self.rest[-1])[1] != json.loads(body)[1]:
+        if not body.startswith(self.rest[-1][1]):
             seen.odd.append(f"{self.name}: {body[:200].decode()}")
-        self.first = 0.0
+        self.first = self.sent = 0.0
         self.rest.pop()
         if self.rest:
             self.send_next()

@@ -14,27 +14,36 @@ import pytest
 from ocpp_board.ledger.verify import verify
 from ocpp_board.store.database import open_store
 from tests.gateway.client import ask, connect_station, make_event, make_reply, wait_for_close
-from tests.gateway.cluster import Cluster, GatewayPart, keep_cluster, list_children
-from tests.gateway.conftest import fill_store
+from tests.gateway.cluster import Cluster, GatewayPart, keep_cluster, kill_all, list_children
+from tests.gateway.conftest import NUMBERS, fill_store
 from tests.gateway.load import Load, Plan, Seen
 from tests.gateway.proxy import Proxy
 
 Make = Callable[..., str]
-# Stations of a scene, events of each, and messages a second of all.
-STATIONS, EVENTS, RATE = 24, 30, 60.0
+# Stations of a scene, events of each, and messages a second of all; and seconds for a scene.
+STATIONS, EVENTS, RATE = 24, 24, 60.0
+LONGEST_SCENE = 120.0
 
 
-@pytest.fixture(name="own_cluster")
-def kept_own_cluster() -> Iterator[Cluster]:
-    """A server that a test may harm: what it commits is on disk."""
+@pytest.fixture(name="harmed_cluster", scope="module")
+def kept_harmed_cluster() -> Iterator[Cluster]:
+    """A server that tests may harm: what it commits is on disk."""
     with keep_cluster(is_durable=True) as cluster:
         yield cluster
 
 
+@pytest.fixture(name="own_cluster")
+def begun_cluster(harmed_cluster: Cluster) -> Cluster:
+    """The same, as it runs again after a test that left it harmed."""
+    if not harmed_cluster.is_running:
+        harmed_cluster.start()
+    return harmed_cluster
+
+
 def check_store(name: str, seen: Seen, scene: str) -> None:
     """All events that were sent are answered as taken ones, are stored once, and the boards are those of whole
-    scripts."""
-    assert not seen.odd and not seen.unanswered, seen.odd[:3]
+    scripts. No message waited without a reply for longer than a gateway has patience."""
+    assert not seen.odd and not seen.unanswered and not seen.late, seen.odd[:3]
     assert len(seen.waits) == STATIONS * EVENTS
     with open_store(name) as store:
         (row,) = store.fetch("select count(*) as n from line")
@@ -46,19 +55,19 @@ def check_store(name: str, seen: Seen, scene: str) -> None:
     print(f"\n{scene}: {seen.report()}; the longest wait {seen.wait(1) / 1000:.2f} s")
 
 
-async def play(urls: list[str], scene: Callable[[], object], after: float = 2.0) -> Seen:
+async def play(urls: list[str], scene: Callable[[], object], after: float = 1.5) -> Seen:
     """Stations send, and after some seconds something fails."""
     load = Load(Plan(urls, STATIONS, events=EVENTS, rate=RATE))
     job = asyncio.create_task(load.run())
     await asyncio.sleep(after)
     await asyncio.to_thread(scene)
-    async with asyncio.timeout(180):
+    async with asyncio.timeout(LONGEST_SCENE):
         return await job
 
 
 def make_store(cluster: Cluster) -> str:
     """A store with the stations of a load."""
-    return fill_store(cluster.create("ledger"), STATIONS, "L")
+    return fill_store(cluster.create(f"ledger_{next(NUMBERS)}"), STATIONS, "L")
 
 
 def test_the_database_is_killed_and_begun_again(own_cluster: Cluster) -> None:
@@ -105,11 +114,7 @@ def test_a_settling_process_is_killed_at_any_moment(own_cluster: Cluster) -> Non
 
     def kill() -> None:
         for _ in range(8):
-            for pid in list_children(gateway.pid):
-                try:
-                    os.kill(pid, 9)
-                except ProcessLookupError:
-                    pass
+            kill_all(list_children(gateway.pid))
             time.sleep(0.4)
 
     with GatewayPart(name, "--lanes", 2) as gateway:
@@ -125,7 +130,7 @@ def test_a_backend_of_the_database_is_ended(own_cluster: Cluster) -> None:
         for _ in range(6):
             own_cluster.query(
                 "postgres",
-                "select pg_terminate_backend(pid) from pg_stat_activity where datname = 'ledger'",
+                "select pg_terminate_backend(pid) from pg_stat_activity where datname like 'ledger%'",
             )
             time.sleep(0.5)
 
@@ -147,7 +152,7 @@ def test_the_network_to_the_database_is_cut(own_cluster: Cluster) -> None:
             time.sleep(2)
 
     try:
-        with GatewayPart(own_cluster.name("ledger", port=proxy.port)) as gateway:
+        with GatewayPart(name.replace(f":{own_cluster.port}/", f":{proxy.port}/")) as gateway:
             seen = asyncio.run(play([gateway.url], cut))
     finally:
         proxy.close()
@@ -162,7 +167,7 @@ def test_two_gateways_settle_the_same_transactions(own_cluster: Cluster) -> None
         # Stations of other names would be other stations, so both loads play the same ones: each connection ends the
         # other's, and what was sent comes again.
         first, second = (Load(Plan(urls[k:] + urls[:k], STATIONS, events=EVENTS)) for k in (0, 1))
-        async with asyncio.timeout(180):
+        async with asyncio.timeout(LONGEST_SCENE):
             one, other = await asyncio.gather(first.run(), second.run())
         return one, other
 

@@ -27,6 +27,7 @@ from tests.scenes.client import (
     LONGEST_WAIT,
     OFFER,
     OTHER,
+    SECOND,
     TEXT,
     Client,
     Differs,
@@ -259,6 +260,39 @@ def faults_of_lines(program: str) -> None:
         if not re.fullmatch(rb'\[3,"h",\{"currentTime":"20[0-9-]+T[0-9:]+Z"\}\]\n', server.line()):
             raise Differs("a heartbeat is not answered with a moment")
         server.ends(boards(1, 0, 0))
+
+
+def operator_delivers_and_asks(program: str) -> None:
+    """What becomes of a message that an operator delivers, and what a text asks for; then the station's own repeat."""
+    heartbeat = '[2,"h","Heartbeat",{}]'
+    other = event(1, "Updated", "2026-03-01T10:14:00Z", 1300).decode()
+    with Live(program) as server:
+        for line, answer in (
+            ("asks " + FIRST.decode(), "event t1 0"),
+            ("total A", NONE),
+            ("deliver A " + FIRST.decode(), 'accepted 1 [3,"1",{}]'),
+            ("deliver A " + FIRST.decode(), 'repeat [3,"1",{}]'),
+            ('deliver A [3,"x",{}]', "silent"),
+            ('asks [3,"x",{}]', "silent"),
+            ("deliver A frob", 'reply [4,"-1","RpcFrameworkError","NotJson",{}]'),
+            ("asks frob", 'reply [4,"-1","RpcFrameworkError","NotJson",{}]'),
+            ("deliver Z " + FIRST.decode(), "fault UnknownStation"),
+            ("deliver A", "fault BadLine"),
+            ("asks", "fault BadLine"),
+        ):
+            server.answers(line, answer + "\n")
+        for line in ("asks " + heartbeat, "deliver B " + heartbeat):
+            server.says(line)
+            reply = server.line().decode()
+            if not re.fullmatch(r'reply \[3,"h",\{"currentTime":"20[0-9-]+T[0-9:]+Z"\}\]\n', reply):
+                raise Differs(f"a heartbeat is answered {reply!r}")
+        station = Station(server, "A")
+        station.reports(0, 1)
+        server.answers("deliver A " + SECOND.decode(), 'repeat [3,"2",{}]\n')
+        conflict = '[4,"2","GenericError","ConflictingEvent",{}]'
+        server.answers("deliver A " + other, f"refused ConflictingEvent {conflict}\n")
+        station.leaves()
+        server.ends(boards(2, 0, 0))
 
 
 def input_ends_within_a_line(program: str) -> None:
@@ -510,6 +544,7 @@ SCENES: tuple[Callable[[str], None], ...] = (
     operator_voids_between_events,
     replies_have_the_time_of_the_host,
     faults_of_lines,
+    operator_delivers_and_asks,
     input_ends_within_a_line,
     an_interrupt_writes_no_board,
     boards_are_of_one_moment,

@@ -13,7 +13,8 @@ from collections.abc import Callable
 from datetime import date
 
 from ocpp_board.store.database import open_store
-from ocpp_board.writers.pages.context import Context, DayBook, PageOptions
+from ocpp_board.writers.pages.context import Context, PageOptions
+from ocpp_board.writers.pages.day_book import DayBook
 from ocpp_board.writers.pages.day_pages import make_day_page, make_station_day_page
 from ocpp_board.writers.pages.links import WebLinks
 from ocpp_board.writers.pages.list_pages import LISTS, make_list_page

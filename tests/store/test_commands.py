@@ -63,7 +63,7 @@ def test_plan(store: Database, store_name: str) -> None:
     assert {(row.who, row.why) for row in changes} == {("jo", "opened")}
     assert '"period": 900' in changes[1].before_text and '"period": 3600' in changes[1].after_text
     table = list(csv.reader(io.StringIO(run(*words).out)))
-    assert table[1][:4] == ["north", "CS-01", "3600", "moment"] and len(table) == 2
+    assert table[1][:5] == ["north", "CS-01", "", "3600", "moment"] and len(table) == 2
 
 
 def test_plan_of_a_file(store: Database, store_name: str, tmp_path: Path) -> None:
@@ -133,20 +133,20 @@ def test_operate(store: Database, store_name: str) -> None:
     """An operator's line says what it changed, or why it was refused, and is kept."""
     plan(store)
     settle(store, list(write_session("CS-01", "T1", 3)))
-    words = ["operate", "--store", store_name, "--who", "jo", "--why", "meter exchanged"]
-    ran = run(*words, "void", "CS-01", "T1", "2")
+    words, why = ["operate", "--store", store_name], ["--who", "jo", "--why", "meter exchanged"]
+    ran = run(*words, "void", "CS-01", "T1", "2", *why)
     assert ran.status == 0
     assert (
         ran.out == "accepted 4: 0.500 kWh, complete before, 0.250 kWh, voided by jo: no end now\n"
     )
-    ran = run(*words, "void", "CS-01", "T1", "2")
+    ran = run(*words, "void", "CS-01", "T1", "2", *why)
     assert ran.status == 1
     assert ran.out.startswith("refused AlreadyVoided: the event is voided already")
-    ran = run(*words, "void", "CS-77", "T1", "2")
+    ran = run(*words, "void", "CS-77", "T1", "2", *why)
     assert ran.status == 1 and "no site has this station" in ran.out
     for wrong in (["a b", "T1", "2"], ["CS-01", "T 1", "2"], ["CS-01", "T1", "02"]):
-        assert run(*words, "void", *wrong).status == 2
-    assert run(*words, "restore", "CS-01", "t1", "2").status == 0
+        assert run(*words, "void", *wrong, *why).status == 2
+    assert run(*words, "restore", "CS-01", "t1", "2", *why).status == 0
     rows = store.fetch("select word, who, why, outcome from deed order by at")
     assert [(row.word, row.outcome) for row in rows] == [
         ("void", "accepted"),

@@ -93,7 +93,7 @@ def test_rows_of_citrineos() -> None:
     )
     assert CitrineForm().read(text) == Entry(None, "A", "t", '[2, "1"]', True)
     old = CitrineForm().read(text.replace("ocpp2.0.1", "ocpp1.6"))
-    assert old and old.is_old and not old.is_stations
+    assert old and old.version == "ocpp1.6" and not old.is_stations
     with pytest.raises(Refused, match="neither cs nor csms"):
         CitrineForm().read(text.replace('"cs"', '"x"'))
 
@@ -115,7 +115,7 @@ def test_messages_of_maeve() -> None:
     answer = 'cs/out/ocpp2.0.1/A {"type":"call-result"}'
     assert MaeveForm().read(answer) == Entry(None, "A", None, "[3]", False)
     old = MaeveForm().read('cs/in/ocpp1.6/A {"type":"call"}')
-    assert old and old.is_old
+    assert old and old.version == "ocpp1.6" and old.station == "A"
     assert MaeveForm().read("manager/status up") is None
     with pytest.raises(Refused, match="'request' is missing"):
         MaeveForm().read(text.replace("request", "response"))
@@ -159,7 +159,7 @@ def test_an_expression_names_groups() -> None:
     assert form.read("t north/A out []") == Entry("north", "A", "t", "[]", False)
     assert form.read("started") is None
     old = RegexForm(compile_pattern("(?P<protocol>[^ ]+) (?P<station>.) (?P<message>.*)"), "in")
-    assert old.read("ocpp1.6 A []") == Entry(None, "", None, "", False, True)
+    assert old.read("ocpp1.6 A []") == Entry(None, "A", None, "", False, "ocpp1.6")
     assert old.read("OCPP2.0.1 A []") == Entry(None, "A", None, "[]")
 
 
@@ -243,7 +243,7 @@ def script_of(log: list[str], folder: Path, *words: str) -> tuple[str, dict[str,
     (folder / "log").write_text("".join(line + "\n" for line in log))
     out = io.BytesIO()
     with open(folder / "log", "rb") as file:
-        conversion = Conversion(read_words(words), out)
+        conversion = Conversion(read_words(["--no-received", *words]), out)
         conversion.run(file, Progress(file))
         conversion.script.write()
     return out.getvalue().decode(), conversion.counts
@@ -403,7 +403,7 @@ def test_a_log_of_many_stations_is_split(tmp_path: Path) -> None:
     log += [row(time="2026-03-01T09:00:00Z", station="N0")]
     (tmp_path / "log").write_text("".join(line + "\n" for line in log))
     folder = tmp_path / "scripts"
-    words = [str(tmp_path / "log"), "--split", str(folder), "--period", "300"]
+    words = [str(tmp_path / "log"), "--split", str(folder), "--period", "300", "--no-received"]
     assert convert(read_words(words)) == Status.DONE
     assert sorted(path.name for path in folder.iterdir()) == ["1.script", "2.script"]
     north, south = ((folder / f"{n}.script").read_text() for n in (1, 2))

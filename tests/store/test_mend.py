@@ -15,6 +15,7 @@ from ocpp_board.errors import UsageError
 from ocpp_board.messages.message_faults import message_fault
 from ocpp_board.records import Message
 from ocpp_board.sources.mend import (
+    Mended,
     Mender,
     find_leaves,
     find_offset,
@@ -49,16 +50,16 @@ def mender(*words: str) -> Mender:
 
 def test_only_what_is_declared_is_mended() -> None:
     whole = mender(*BOTH)
-    assert whole.mend("north", "A", CAME, None) == (TAKEN, ("no-offset", "text-value"))
+    assert whole.mend("north", "A", CAME, None) == Mended((TAKEN,), ("no-offset", "text-value"))
     assert whole.describe() == "north=no-offset 1, north=text-value 1"
-    assert whole.mend("south", "A", CAME, None) == (CAME, ())
-    value, _ = mender(BOTH[0]).mend("north", "A", CAME, None)
+    assert whole.mend("south", "A", CAME, None) == Mended((CAME,))
+    ((value,), _) = mender(BOTH[0]).mend("north", "A", CAME, None)
     assert '"value":1000.50}' in value and '"timestamp" : "2026-03-01T10:00:00"' in value
-    time, _ = mender(BOTH[1]).mend("north", "A", CAME, None)
+    ((time,), _) = mender(BOTH[1]).mend("north", "A", CAME, None)
     assert '"value":"1000.50"}' in time and '10:00:00+01:00"' in time
     # What is mended is what was meant, and nothing more is to be mended in it.
     assert json.loads(TAKEN)[3]["meterValue"][0]["sampledValue"][0]["value"] == 1000.5
-    assert whole.mend("north", "A", TAKEN, None) == (TAKEN, ())
+    assert whole.mend("north", "A", TAKEN, None) == Mended((TAKEN,))
 
 
 @pytest.mark.parametrize(
@@ -73,12 +74,12 @@ def test_only_what_is_declared_is_mended() -> None:
     ],
 )
 def test_what_is_none_of_these_faults_goes_as_it_came(message: str) -> None:
-    assert mender(*BOTH).mend("north", "A", message, None) == (message, ())
+    assert mender(*BOTH).mend("north", "A", message, None) == Mended((message,))
 
 
 def test_a_message_whose_comment_has_no_room_goes_as_it_came() -> None:
     long = CAME.replace('"eventType"', f'"x":"{"y" * 262_300}","eventType"')
-    assert mender(*BOTH).mend("north", "A", long, None) == (long, ())
+    assert mender(*BOTH).mend("north", "A", long, None) == Mended((long,))
 
 
 @pytest.mark.parametrize(
@@ -177,7 +178,8 @@ def test_scripts_that_are_split_have_what_came(tmp_path: Path) -> None:
         for n in range(65)
     ]
     (tmp_path / "log.gz").write_bytes(gzip.compress("\n".join(rows).encode()))
-    words = ["--split", str(tmp_path / "out"), "--mend", "s64=text-value", str(tmp_path / "log.gz")]
+    words = ["--no-received", "--split", str(tmp_path / "out")]
+    words += ["--mend", "s64=text-value", str(tmp_path / "log.gz")]
     assert log_to_script.convert(read_words(words)) == Status.DONE
     texts = [path.read_text() for path in sorted((tmp_path / "out").iterdir())]
     (has,) = (text for text in texts if "# mended" in text)

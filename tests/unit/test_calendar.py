@@ -64,5 +64,17 @@ def test_moments_to_the_second_are_those_of_the_zone(zone: str) -> None:
     for number in range(4):
         for part in (0.0, 0.25, 0.999999):
             at = first + timedelta(seconds=number + part, hours=number)
-            local = at.astimezone(ZoneInfo(zone))
-            assert calendar.write_seconds(at.timestamp()) == f"{local:%Y-%m-%d %H:%M:%S}"
+            shown = f"{at.astimezone(ZoneInfo(zone)):%Y-%m-%d %H:%M:%S}"
+            assert calendar.second(at) == shown
+            assert calendar.minute(at) == shown[:16]
+            for text in (f"{at:%Y-%m-%dT%H:%M:%S.%f}Z", at.isoformat(), f"{at:%Y%m%d %H%M%S}z"):
+                assert calendar.write_stamp(text) == shown
+
+
+@pytest.mark.parametrize("text", ["2026-02-30T10:00:00Z", "2026-03-01T24:00:00Z", "now", ""])
+def test_a_stamp_that_is_no_moment(text: str) -> None:
+    assert Calendar("UTC").write_stamp(text) is None
+
+
+def test_a_leap_second_is_the_one_before() -> None:
+    assert Calendar("UTC").write_stamp("2026-06-30T23:59:60Z") == "2026-06-30 23:59:59"

@@ -12,16 +12,20 @@ PATH = re.compile(
     r"(?<![\w/.-])((?:crates|docs|examples|packaging|python|tests)/[\w./-]+)(?![\w*{<])"
 )
 BUILT = re.compile(r"/out(/|$)")
-# A program of a build, and the command that proves, builds and runs one.
+# A program of a build, and the line of `start` that names the one that it builds.
 PROGRAM = re.compile(r"crates/(\w+)/out/(\w+)")
-BUILD = re.compile(r"cd crates/(\w+) && rt run")
+BUILD = re.compile(r"^program=crates/(\w+)/out/", re.MULTILINE)
 TOOL = re.compile(r"ocpp-board ([a-z][a-z-]+)")
 CODE = re.compile(r"`([^`\n]+)`")
 # A command of the tests, and its options.
 TEST = re.compile(r"tests/one ([a-z_]+(?:\.[a-z_]+)*)([^`]*)")
 OPTION = re.compile(r"(?<= )--[a-z-]+")
-# Words of a paragraph, which is one line, and lines of README.
-MOST_WORDS, MOST_LINES = 120, 125
+# Words of a paragraph, which is one line, and of a sentence; words of all pages, without their blocks of code; lines of
+# README.
+MOST_WORDS, MOST_OF_SENTENCE, MOST_OF_ALL, MOST_LINES = 120, 40, 20_000, 120
+ITEM = re.compile(r"^(?:[-*]|\d+\.) ")
+LINK = re.compile(r"!?\[([^\]]*)\]\([^)]*\)")
+END = re.compile(r"(?<=[.!?])[)*\"]*\s+")
 
 
 def pages() -> list[Path]:
@@ -59,6 +63,43 @@ def found(pattern: re.Pattern[str]) -> set[tuple[str, str]]:
     }
 
 
+def count_words(text: str) -> int:
+    """The words of a text: what has a letter or a digit between blanks."""
+    return sum(re.search(r"\w", word) is not None for word in text.split())
+
+
+def read_lines(text: str) -> Iterator[str]:
+    """The lines of a page; a block of code is one empty line."""
+    is_code = False
+    for line in text.splitlines():
+        if line.lstrip().startswith("```"):
+            is_code = not is_code
+            yield ""
+        elif not is_code:
+            yield "" if line.startswith("    ") else line.strip()
+
+
+def read_pieces(text: str) -> Iterator[str]:
+    """The paragraphs, headings and list items of a page, and the cells of its tables, each as one line."""
+    piece = ""
+    for line in read_lines(text):
+        if not line or line[0] in "|#" or ITEM.match(line):
+            yield piece
+            piece = ITEM.sub("", line)
+        else:
+            piece = f"{piece} {line}"
+        if line.startswith(("|", "#")):
+            yield from line.split("|")
+            piece = ""
+    yield piece
+
+
+def read_sentences(text: str) -> Iterator[str]:
+    """The sentences of a page. Code within a line is one word, and a link is its text."""
+    for piece in read_pieces(text):
+        yield from END.split(LINK.sub(r"\1", CODE.sub("x", piece)))
+
+
 def test_paths_are_there() -> None:
     paths = {(page, path) for page, path in found(PATH) if not BUILT.search(path)}
     assert not {(page, path) for page, path in paths if not (TOP / path.rstrip("./")).exists()}
@@ -82,6 +123,33 @@ def test_paragraphs_are_short() -> None:
     paragraphs = [(page.name, line) for page in pages() for line in page.read_text().splitlines()]
     assert not {(name, line[:60]) for name, line in paragraphs if len(line.split()) > MOST_WORDS}
     assert len((TOP / "README.md").read_text().splitlines()) <= MOST_LINES
+
+
+def test_sentences_are_short() -> None:
+    sentences = [(page.name, one) for page in pages() for one in read_sentences(page.read_text())]
+    assert len(sentences) > 1_000
+    assert not [one for one in sentences if count_words(one[1]) > MOST_OF_SENTENCE]
+
+
+def test_sentences_are_those_of_paragraphs_items_and_cells() -> None:
+    text = """# Head
+One two `a b`. [Three](x.md#y) four
+five.
+- Six: `seven`
+1. Eight.
+|nine|ten. No|
+```
+A b
+```
+"""
+    found = [one for one in map(str.strip, read_sentences(text)) if one]
+    paragraph, rest = ["One two x.", "Three four five."], ["Six: x", "Eight.", "nine", "ten.", "No"]
+    assert found == ["# Head", *paragraph, *rest]
+
+
+def test_pages_have_few_words() -> None:
+    words = {page.name: sum(map(count_words, read_lines(page.read_text()))) for page in pages()}
+    assert 10_000 < sum(words.values()) <= MOST_OF_ALL, words
 
 
 def test_tools_are_those_of_the_command() -> None:

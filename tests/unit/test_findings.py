@@ -5,16 +5,19 @@ import json
 from collections.abc import Sequence
 from datetime import timedelta
 from decimal import Decimal
+from pathlib import Path
 from typing import Any
 
 import pytest
 
-from ocpp_board.ledger.answers import AnswerReader, Lists
-from ocpp_board.ledger.events import History, LiveEvents, join_lists, read_history
-from ocpp_board.ledger.findings import Finding, Kind, find_doubts, name_order_option
-from ocpp_board.ledger.rows import find_registers
+import ocpp_board
+from ocpp_board.ledger.answers import AnswerReader
+from ocpp_board.ledger.course import Course
+from ocpp_board.ledger.events import read_conflict
+from ocpp_board.ledger.findings import MOST_KW, Finding, Kind
+from ocpp_board.ledger.rows import find_ends
 from ocpp_board.messages.transactions import mwh_of
-from ocpp_board.records import Line
+from ocpp_board.records import Line, Rules
 from tests.reference import Site, Station, event_of
 from tests.traffic.troubles import FIRST, KINDS, Sent, Session as Messages, event, reading, sound
 
@@ -26,23 +29,23 @@ def deliver(sent: Sent) -> str:
     return f"deliver CS-01 {json.dumps([2, '1', sent.action, sent.payload])}"
 
 
-def take(messages: Messages, conflicts: Sequence[int] = ()) -> History:
-    """The transaction of these messages, which are accepted but for those that conflict."""
-    lines = [
+def take(messages: Messages, conflicts: Sequence[int] = ()) -> list[Line]:
+    """The lines of these messages, which are accepted but for those that conflict."""
+    return [
         Line(number + 1, deliver(sent), sent.received)
         for number, sent in enumerate(messages)
         if number not in conflicts
     ]
-    return read_history(lines, [deliver(messages[number]) for number in conflicts])
 
 
-def count(
+def follow(
     messages: Messages,
     conflicts: Sequence[int] = (),
     is_by_moment: bool = False,
     voided: Sequence[int] = (),
-) -> LiveEvents:
-    """The live events of these messages, by lists in plain Python."""
+    most_kw: int = MOST_KW,
+) -> Course:
+    """The course of these messages, by lists in plain Python."""
     station = Station(Site(is_by_moment=is_by_moment))
     own = station.events.setdefault("t1", {})
     for number, sent in enumerate(messages):
@@ -51,28 +54,29 @@ def count(
             own[payload["seqNo"]] = event_of(payload)
     station.voided = {("t1", number) for number in voided}
     texts = [*station.event_list("CS-01", "t1"), *station.reading_list("CS-01", "t1"), ""]
-    reader = AnswerReader("\n".join(texts).encode())
-    return join_lists(
-        Lists(reader.read_events(), reader.read_readings()), take(messages, conflicts)
-    )
+    lists = AnswerReader("\n".join(texts).encode()).read_lists()
+    course = Course("north", Rules(order="moment" if is_by_moment else "sequence", most_kw=most_kw))
+    course.take(take(messages, conflicts), lists)
+    return course
 
 
 def find(
     messages: Messages,
     complete: bool = True,
     conflicts: Sequence[int] = (),
-    by_sequence: str | None = "a line `order north moment`",
+    is_by_moment: bool = False,
+    voided: Sequence[int] = (),
+    most_kw: int = MOST_KW,
 ) -> list[Finding]:
     """The findings of these messages."""
-    events = count(messages, conflicts, by_sequence is None)
-    return find_doubts(take(messages, conflicts), events, complete, by_sequence)
+    course = follow(messages, conflicts, is_by_moment, voided, most_kw)
+    others = [read_conflict(deliver(messages[number])) for number in conflicts]
+    return course.doubts.find(course.events, others, complete, course.spans.of_readings)
 
 
 def registers(messages: Messages, is_by_moment: bool = False) -> tuple[tuple[int | None, ...], ...]:
     """The first and the last reading of the import register, and of the export register."""
-    found = find_registers(count(messages, is_by_moment=is_by_moment))
-    names = ("register", "export_register")
-    return tuple((found[f"first_{name}"], found[f"last_{name}"]) for name in names)
+    return tuple(map(find_ends, follow(messages, is_by_moment=is_by_moment).events.orders))
 
 
 def kinds(name: str, conflicts: Sequence[int] = ()) -> list[tuple[Kind, int]]:
@@ -89,11 +93,11 @@ def kinds(name: str, conflicts: Sequence[int] = ()) -> list[tuple[Kind, int]]:
         ("interval-energy", [(Kind.OTHER_ENERGY, 4)]),
         ("phase-energy", [(Kind.OTHER_ENERGY, 4)]),
         ("inlet-energy", [(Kind.OTHER_ENERGY, 4)]),
-        ("clock-back", [(Kind.CLOCK_BACK, 1)]),
+        ("clock-back", [(Kind.READ_LATER, 1)]),
         ("clock-far", [(Kind.CLOCK_FAR, 4)]),
         ("register-falls", [(Kind.REGISTER_FALLS, 1)]),
         ("readings-repeated", [(Kind.REPEATED, 3)]),
-        ("above-0", [(Kind.NUMBERS_ABOVE_0, 1)]),
+        ("above-0", []),
         ("missing-number", []),
         ("no-end", []),
         ("no-start", []),
@@ -113,7 +117,7 @@ def test_the_greatest_power_may_be_said(most_kw: int, times: int) -> None:
     messages = sound("T1", FIRST)
     messages[1].payload["meterValue"][0]["sampledValue"][0]["value"] = 6_000
     messages[2:] = []
-    found = find_doubts(take(messages), count(messages), False, "", most_kw)
+    found = find(messages, False, most_kw=most_kw)
     assert [one.kind for one in found] == [Kind.POWER] * times
 
 
@@ -147,6 +151,8 @@ def test_an_end_that_comes_again_with_another_time_uses_no_id_again() -> None:
     messages = [*sound("T1", FIRST), event("T1", 3, "Ended", FIRST + 9 * HOUR, 1)]
     assert find(messages, True, [4]) == []
     messages[4] = event("T1", 3, "Updated", FIRST + 9 * HOUR, 1)
+    assert find(messages, True, [4]) == []
+    messages[4] = event("T1", 0, "Started", FIRST + 9 * HOUR, 1)
     assert [one.kind for one in find(messages, True, [4])] == [Kind.ID_AGAIN]
 
 
@@ -186,13 +192,13 @@ def test_of_many_measurands_the_first_are_reported() -> None:
 def test_a_reason_may_be_anything(reason: Any, reported: str) -> None:
     messages = sound("T1", FIRST)
     messages[3].payload["transactionInfo"]["stoppedReason"] = reason
-    assert count(messages)[-1].reason == reported and reported.isprintable()
+    assert follow(messages).events[-1].reason == reported and reported.isprintable()
 
 
 def test_energy_that_does_not_count_beside_a_counted_reading_is_no_finding() -> None:
     messages = KINDS["interval-energy"]("T1", FIRST)
     messages[0].payload["meterValue"].append(reading(FIRST, 1))
-    assert find(messages) == []
+    assert [one.kind for one in find(messages)] == [Kind.ONE_READING]
 
 
 def test_a_session_that_goes_on_may_have_no_reading_yet() -> None:
@@ -206,7 +212,7 @@ def test_the_last_reading_once_more_is_no_repetition() -> None:
 
 
 def test_readings_that_are_listed_again_name_the_line_that_mends_it() -> None:
-    (found,) = find(KINDS["readings-repeated"]("T1", FIRST), by_sequence=name_order_option("north"))
+    (found,) = find(KINDS["readings-repeated"]("T1", FIRST))
     assert found.detail == (
         "`--order north=moment` of report, follow or log-to-script (in a script line `order north moment`) takes "
         "them by moment"
@@ -216,12 +222,12 @@ def test_readings_that_are_listed_again_name_the_line_that_mends_it() -> None:
 @pytest.mark.parametrize("name", ["readings-repeated", "sound", "feeds-back"])
 def test_by_time_what_is_listed_again_is_no_finding(name: str) -> None:
     messages = KINDS[name]("T1", FIRST)
-    assert find(messages, by_sequence=None) == []
+    assert find(messages, is_by_moment=True) == []
     assert registers(messages, True)[name == "feeds-back"] == (1_000_000, 1_750_000)
 
 
 def test_by_time_a_register_falls_where_it_reads_less_later() -> None:
-    assert [one.kind for one in find(KINDS["register-falls"]("T1", FIRST), by_sequence=None)] == [
+    assert [one.kind for one in find(KINDS["register-falls"]("T1", FIRST), is_by_moment=True)] == [
         Kind.REGISTER_FALLS
     ]
     # Two levels of one moment, listed again: a rise, a fall, a rise.
@@ -229,7 +235,7 @@ def test_by_time_a_register_falls_where_it_reads_less_later() -> None:
     messages = [event("T1", n, "Updated", FIRST + n * HOUR) for n in (0, 1)]
     for one in messages:
         one.payload["meterValue"] = list(both)
-    (found,) = find(messages, by_sequence=None)
+    (found,) = find(messages, is_by_moment=True)
     assert (found.kind, found.times) == (Kind.REGISTER_FALLS, 1)
 
 
@@ -240,7 +246,7 @@ def test_by_time_the_first_and_the_last_reading_are_those_of_moments() -> None:
     assert registers(messages)[0] == (1_000_000, 1_200_000)
     assert registers(messages, True)[0] == (1_000_000, 1_300_000)
     assert [one.kind for one in find(messages)] == [Kind.REGISTER_FALLS]
-    assert find(messages, by_sequence=None) == []
+    assert find(messages, is_by_moment=True) == []
 
 
 def test_a_register_falls_once_for_each_fall_and_per_direction() -> None:
@@ -278,10 +284,9 @@ def test_how_far_a_clock_may_lie(late: timedelta, is_offline: bool, times: int) 
 def test_without_a_receipt_no_clock_is_far() -> None:
     one = KINDS["clock-far"]("T1", FIRST)[0]
     assert [found.kind for found in find([one], False)] == [Kind.CLOCK_FAR]
-    text = deliver(one)
-    history = read_history([Line(1, text, None)], [])
-    events = LiveEvents([history.told[0].event])
-    assert find_doubts(history, events, False, "north") == []
+    course = Course("north", Rules())
+    course.take([Line(1, deliver(one), None)], follow([one]).lists)
+    assert course.doubts.find(course.events, [], False, course.spans.of_readings) == []
 
 
 def test_registers_are_the_first_and_the_last_and_not_the_lowest() -> None:
@@ -290,26 +295,27 @@ def test_registers_are_the_first_and_the_last_and_not_the_lowest() -> None:
 
 def test_a_first_event_that_is_voided_came_all_the_same() -> None:
     messages = sound("T1", FIRST)
-    assert find_doubts(take(messages), count(messages, voided=[0]), False, "north") == []
+    assert find(messages, False, voided=[0]) == []
 
 
 def test_two_events_may_have_the_same_time() -> None:
     messages = sound("T1", FIRST)
     messages[1].payload["timestamp"] = messages[0].payload["timestamp"]
+    messages[1].payload["meterValue"][0]["timestamp"] = messages[0].payload["timestamp"]
     assert find(messages) == []
 
 
 def test_an_event_that_was_erased_is_known_by_the_one_that_came_in_its_place() -> None:
     other = event("T1", 1, "Updated", FIRST + HOUR, 2_000)
-    told = take([*sound("T1", FIRST), other]).told
-    assert told[1].event.at == (FIRST + HOUR).timestamp()
+    other.payload["transactionInfo"]["stoppedReason"] = "Local"
+    assert follow([*sound("T1", FIRST), other]).events[1].reason == "Local"
 
 
 def test_a_value_that_does_not_count_needs_no_number() -> None:
     start, *_ = sound("T1", FIRST)
     at = {"timestamp": "2026-03-01T08:00:00Z", "sampledValue": [{"measurand": "Voltage"}]}
     message = start._replace(payload=start.payload | {"meterValue": [at]})
-    assert take([message]).told[0].event.readings == ()
+    assert follow([message]).events[0].readings == ()
 
 
 @pytest.mark.parametrize(
@@ -328,3 +334,11 @@ def test_a_value_that_does_not_count_needs_no_number() -> None:
 )
 def test_readings_are_whole_mwh_rounded_down(value: str, unit: dict[str, Any], mwh: int) -> None:
     assert mwh_of(value, unit) == mwh
+
+
+def test_the_kinds_that_hold_a_bill_are_those_of_the_view() -> None:
+    text = (Path(ocpp_board.__file__).parent / "store" / "days_views.sql").read_text("utf-8")
+    listed = text.partition("f.kind in (")[2].partition(")")[0]
+    assert {word.strip().strip("'") for word in listed.replace("\n", " ").split(",")} == {
+        kind.label for kind in Kind if kind.holds
+    }

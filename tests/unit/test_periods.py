@@ -3,7 +3,7 @@
 from datetime import datetime, timezone
 
 from ocpp_board.ledger.events import LiveEvents
-from ocpp_board.ledger.periods import Doubt, find_period_doubts
+from ocpp_board.ledger.periods import Doubt, Spans
 from ocpp_board.messages.transactions import Event, Reading
 
 TEN = int(datetime(2026, 3, 1, 10, tzinfo=timezone.utc).timestamp())
@@ -22,8 +22,14 @@ def events(*readings: tuple[float, int]) -> list[Event]:
 
 def doubts(some: list[Event], *gaps: tuple[int, int]) -> dict[int, Doubt]:
     """The doubts by quarters after ten."""
-    read = [(event, one) for event in some for one in event.readings]
-    found = find_period_doubts(LiveEvents(some, read), QUARTER, gaps)
+    spans, live, had = Spans(QUARTER, 300), LiveEvents(), None
+    live += some
+    live.orders[0].extend((event, one) for event in some for one in event.readings)
+    spans.take_events(some)
+    for event, one in live.orders[0]:
+        spans.take_readings(False, had, [(event, one)])
+        had = one
+    found = spans.find_doubts(live, gaps)
     return {(start - TEN) // QUARTER: doubt for start, doubt in found.items()}
 
 

@@ -1,4 +1,4 @@
-"""Close a site's days: freeze the energy of all periods up to a day's end, and of the sessions that are complete.
+"""Closes a site's days: fixes the energy of all periods up to a day's end, and of the sessions that are complete.
 
     ocpp-board close-day --store ledger.db --site north
     ocpp-board close-day --store ledger.db --site north --day 2026-03-01

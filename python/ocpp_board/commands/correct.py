@@ -1,7 +1,7 @@
-"""Correct a reading: void its event, erase it, and deliver the message with the right reading, in one step.
+"""Corrects a reading: voids its event, erases it, and delivers the message with the right reading, in one step.
 
-    ocpp-board correct --store ledger.db CS-01 T-4711 3 0 --kwh 4711.5 --why "read at the meter"
-    ocpp-board correct --store ledger.db --table corrections.csv --why "meter class exchanged" --preview
+    ocpp-board operate --store ledger.db correct CS-01 T-4711 3 0 --kwh 4711.5 --why "read at the meter"
+    ocpp-board operate --store ledger.db correct --table corrections.csv --why "meter class exchanged" --preview
 
 STATION, TRANSACTION and NUMBER (the event's seqNo) name the event; PLACE is the reading's place among the event's
 readings of the import register, from 0, as on the transaction's page. With --export it is one of the export register.
@@ -13,14 +13,7 @@ import argparse
 import csv
 from pathlib import Path
 
-from ocpp_board.commands.options import (
-    add_author,
-    add_program,
-    add_store,
-    choose_program,
-    read_author,
-    read_mwh,
-)
+from ocpp_board.commands.options import add_author, read_author, read_mwh
 from ocpp_board.errors import InputError, UsageError
 from ocpp_board.ledger.corrections import Correction, correct, describe, prepare
 from ocpp_board.ledger.program import find_program
@@ -40,8 +33,6 @@ def read_number(text: str) -> int:
 
 def add_words(parser: argparse.ArgumentParser) -> None:
     """The words of the command."""
-    add_store(parser)
-    add_program(parser)
     parser.add_argument("station", nargs="?", metavar="STATION")
     parser.add_argument("transaction", nargs="?", metavar="TRANSACTION")
     parser.add_argument("number", nargs="?", metavar="NUMBER", type=read_number)
@@ -95,7 +86,6 @@ def read_wanted(words: argparse.Namespace) -> list[Correction]:
 
 def run(words: argparse.Namespace) -> int:
     """Corrects readings, or shows what would change."""
-    choose_program(words.program)
     wanted = read_wanted(words)
     with open_store(words.store) as store:
         prepared = prepare(store, find_program(), wanted, read_author(words))

@@ -24,7 +24,7 @@ from collections.abc import Iterable, Sequence
 
 from ocpp_board.commands.options import add_program, choose_program
 from ocpp_board.escapes import shown
-from ocpp_board.ledger.answers import read_line_answer
+from ocpp_board.ledger.answers import read_answer
 from ocpp_board.ledger.near_limits import REMEDY as MORE_ROOM
 from ocpp_board.ledger.near_limits import USUAL, NearLimits
 from ocpp_board.ledger.program import Program, find_program
@@ -145,7 +145,7 @@ class Explainer:
         """Takes a line with a station's text."""
         reply = line.answer
         if words[0] == "deliver":
-            reply = read_line_answer(line.answer).reply or ""
+            reply = read_answer(line.answer).reply or ""
         elif words[0] == "asks":
             reply = line.answer.removeprefix("reply ")
         if reply.startswith("[4,"):

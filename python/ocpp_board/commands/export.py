@@ -7,7 +7,8 @@
 
 A script has the declarations, each message that changed something with the time of its receipt, the operators' lines
 with who and why, and a line `board` at its end. A script has at most 64 stations; with --out a site of more stations
-becomes several files: NAME.script, NAME.2.script and so on.
+becomes several files: NAME.script, NAME.2.script and so on. Transactions with an order of their own (`operate order`)
+have a script of theirs, which declares that order and says in a comment which they are.
 """
 
 import argparse
@@ -18,8 +19,8 @@ from pathlib import Path
 
 from ocpp_board.commands.options import add_store
 from ocpp_board.errors import InputError, UsageError
-from ocpp_board.ledger.rows import DELIVER
-from ocpp_board.ledger.scripts import Script, part_scripts
+from ocpp_board.ledger.scripts import OWN_ORDERS, Script, part_scripts
+from ocpp_board.records import DELIVER
 from ocpp_board.sources.script import OPERATOR, write_comment
 from ocpp_board.statuses import Status
 from ocpp_board.store.database import Database, Row, open_store
@@ -31,7 +32,10 @@ wrong or the store or a file can't be used."""
 LINES = """
 select l.station, l.transaction_id, l.number, l.line, l.received, l.who, l.why from session s
 join line l on l.station = s.station and l.transaction_id = s.transaction_id
-where s.site = :site order by l.station, l.transaction_id, l.number
+where s.site = :site and s.own_order = :order order by l.station, l.transaction_id, l.number
+"""
+ORDERED = """
+select station, transaction_id from session where site = :site and own_order = :order order by station, transaction_id
 """
 OF_STATION = """
 select station, transaction_id, site from session where station = :station order by site, transaction_id
@@ -101,7 +105,17 @@ def list_scripts(store: Database, site: str, words: argparse.Namespace) -> Itera
         if value:
             statement = statement.replace("order by", f"and l.{column} = :{column} order by")
             values[column] = value.lower() if column == "transaction_id" else value
-    return part_scripts(store.stream(statement, **values), write_line)
+    for order in OWN_ORDERS:
+        yield from part_scripts(store.stream(statement, **values, order=order), write_line, order)
+
+
+def describe_order(store: Database, site: str, script: Script) -> bytes:
+    """The comment of a script whose transactions have an order of their own."""
+    if not script.order:
+        return b""
+    rows = store.fetch(ORDERED, site=site, order=script.order)
+    names = (f"{row.transaction_id} of {row.station}" for row in rows if row.station in script.uses)
+    return f"# taken by {script.order}, as operators chose: {', '.join(names)}\n".encode()
 
 
 def name_file(out: Path, number: int) -> Path:
@@ -118,7 +132,7 @@ def run(words: argparse.Namespace) -> int:
         if rules is None:
             raise InputError(f"the store has no site {site!r}")
         for count, script in enumerate(list_scripts(store, site, words), 1):
-            text = script.write(site, rules)
+            text = describe_order(store, site, script) + script.write(site, rules)
             if words.out:
                 name_file(words.out, count).write_bytes(text)
             elif count > 1:

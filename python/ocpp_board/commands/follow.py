@@ -26,24 +26,17 @@ import time
 from collections.abc import Callable, Iterator, Sequence
 from dataclasses import dataclass, replace
 from datetime import datetime, timezone
-from functools import partial
+
 from pathlib import Path
 from types import FrameType
 from typing import Any
 
 from ocpp_board.commands.loading import BATCH, Loader, Wanted
-from ocpp_board.commands.options import (
-    add_power,
-    add_program,
-    add_store,
-    add_tokens,
-    add_zones,
-    choose_program,
-)
+from ocpp_board.commands.options import add_log_options, add_store, choose_program
 from ocpp_board.commands.reading import Meter
 from ocpp_board.commands.renewing import Renewer, Shown
 from ocpp_board.commands.report import count_of, open_pool
-from ocpp_board.errors import InputError, OcppBoardError, StoreError, UsageError
+from ocpp_board.errors import InputError, StoreError, UsageError
 from ocpp_board.escapes import shown, without_controls
 from ocpp_board.ledger.engine import Pool, settle, take_strays
 from ocpp_board.limits import GREATEST_SEQ_NO
@@ -55,9 +48,10 @@ from ocpp_board.sources.follow import Follower, Place
 from ocpp_board.sources.forms import Shape, choose_shape
 from ocpp_board.sources.log import LogReader
 from ocpp_board.sources.script import is_number
-from ocpp_board.sources.stations import StorePlan, add_rules, add_utc, choose_plan, read_pairs
+from ocpp_board.sources.stations import StorePlan, choose_plan, read_pairs
 from ocpp_board.statuses import Status
 from ocpp_board.store.database import Database, open_store
+from ocpp_board.store.lines import note_left_out
 from ocpp_board.store.plan import Author
 from ocpp_board.writers.tables import TableOptions
 
@@ -132,14 +126,7 @@ def add_words(parser: argparse.ArgumentParser) -> None:
         action="store_true",
         help="take what the logs have, write the pages and tables, and end",
     )
-    forms.add_form(parser)
-    forms.add_fields(parser, ("station", "time", "message"))
-    add_utc(parser)
-    add_rules(parser)
-    add_zones(parser)
-    add_power(parser)
-    add_tokens(parser)
-    add_program(parser)
+    add_log_options(parser, ("station", "time", "message"))
     parser.set_defaults(site_map=None)
 
 
@@ -238,15 +225,15 @@ class FollowedLog:
             read = self.reader.read(bare)
         except Refused as why:
             untaken = self.reader.make_untaken(why, bare, 0)
-            records.append(replace(untaken, origin=f"{self.path}, byte {at}"))
+            records.append(untaken._replace(origin=f"{self.path}, byte {at}"))
             if why.kind not in self.reported:
                 self.reported.add(why.kind)
                 log.warning("%s: %s", self.path, why)
             return
         if read.note:
             self.report(f"{self.path}: {read.note}")
-        if read.message:
-            records.append(replace(read.message, origin=f"{self.path}, byte {at}"))
+        for message in read.messages:
+            records.append(message._replace(origin=f"{self.path}, byte {at}"))
         if entry := self.reader.entry:
             moment = f" at {shown(entry.time)[1:-1]}" if entry.time else ""
             self.last = f"{shown(entry.station)[1:-1]}{moment}"
@@ -324,7 +311,7 @@ class Follow:
         self.logs = [
             FollowedLog(path, name, options, self.plan) for path, name in zip(options.logs, names)
         ]
-        self.renewer = Renewer(store, options.shown) if options.shown else None
+        self.renewer = Renewer(store, options.shown, options.processes) if options.shown else None
         self.lines: queue.Queue[bytes] = queue.Queue()
         self.is_ending = False
         self.is_caught_up = False
@@ -384,12 +371,16 @@ class Follow:
 
     def settle_log(self, one: FollowedLog, records: list[Asked], place: Place) -> None:
         """Settles what came of a log; what fails is tried again until it is done."""
+        left_out = one.reader.take_left_out()
+
+        def note(store: Database) -> None:
+            write_place(one.name, place, store)
+            note_left_out(store, left_out)
 
         def settle_once() -> None:
             self.loader.plan(self.find_new(records))
             pool = self.loader.pool if len(records) > MANY else None
-            also = partial(write_place, one.name, place)
-            answers = settle(self.store, records, pool, also=also)
+            answers = settle(self.store, records, pool, also=note)
             for record, answer in zip(records, answers):
                 self.loader.note(record.station, answer)
 
@@ -547,13 +538,10 @@ def run(words: argparse.Namespace) -> int:
     """Does what the words ask for, and gives the exit status."""
     options = choose_options(words.parser, words)
     choose_program(words.program)
-    try:
-        with open_pool(options.processes) as pool, open_store(options.store) as store:
-            follow = Follow(options, store, pool)
-            threading.Thread(target=read_lines, args=(follow.lines,), daemon=True).start()
-            out = f"; pages are in {options.shown.out}" if options.shown else ""
-            log.info("follows %s into %s%s", ", ".join(map(str, options.logs)), options.store, out)
-            with end_by_signals(follow):
-                return follow.run()
-    except OcppBoardError:
-        raise
+    with open_pool(options.processes) as pool, open_store(options.store) as store:
+        follow = Follow(options, store, pool)
+        threading.Thread(target=read_lines, args=(follow.lines,), daemon=True).start()
+        out = f"; pages are in {options.shown.out}" if options.shown else ""
+        log.info("follows %s into %s%s", ", ".join(map(str, options.logs)), options.store, out)
+        with end_by_signals(follow):
+            return follow.run()

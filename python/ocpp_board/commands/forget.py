@@ -1,4 +1,4 @@
-"""Take personal data out of a store: drivers' tokens that are so many days old, one token, or whole years.
+"""Takes personal data out of a store: drivers' tokens that are so many days old, one token, or whole years.
 
     ocpp-board forget --store ledger.db --after 365
     ocpp-board forget --store ledger.db --token 04A2F7C1

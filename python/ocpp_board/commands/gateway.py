@@ -15,7 +15,7 @@ as you like, on any machines, and end them at any time.
 import argparse
 import asyncio
 
-from ocpp_board.commands.options import add_program, add_store, choose_program
+from ocpp_board.commands.options import add_program, add_store, choose_program, read_count
 from ocpp_board.words import pick_options
 
 ENDING = """\
@@ -67,7 +67,7 @@ def add_words(parser: argparse.ArgumentParser) -> None:
         "--lanes",
         type=read_lanes,
         default=2,
-        help="how many batches are settled at once, each by a process (default: 2; SQLite takes one after the other)",
+        help="how many batches are stored at once, each by a process (default: 2; SQLite takes one after the other)",
     )
     parser.add_argument(
         "--proxy",
@@ -82,10 +82,29 @@ def add_words(parser: argparse.ArgumentParser) -> None:
         help="let each station of the plan in without a password, as in a laboratory",
     )
     parser.add_argument(
+        "--keep-refused",
+        action="store_true",
+        help="answer {} to a message that conflicts with a stored one or is above a limit, once its text is in the "
+        "store: a station that is refused drops its copy after some attempts. `ocpp-board take` has such texts",
+    )
+    parser.add_argument(
+        "--ocpp2.1",
+        dest="pilot",
+        action="store_true",
+        help="for pilots: let stations speak OCPP 2.1, too; of its messages those that 2.0.1 has are taken",
+    )
+    parser.add_argument(
         "--metrics",
         metavar="PORT",
         type=read_place,
         help="serve figures at /metrics and health at /health, on this port of 127.0.0.1, or ADDRESS:PORT",
+    )
+    parser.add_argument(
+        "--silent",
+        type=read_count,
+        default=24,
+        metavar="HOURS",
+        help="hours after which a session that lacks messages counts as silent at /metrics (default: 24)",
     )
     add_tls_words(parser)
 

@@ -1,4 +1,4 @@
-"""List sessions that lack messages and went silent, for an alert and for GetTransactionStatus.
+"""Lists sessions that lack messages and went silent, for an alert and for GetTransactionStatus.
 
     ocpp-board lacking --store ledger.db --hours 24
 
@@ -21,11 +21,8 @@ from ocpp_board.writers.bills import write_moment, write_signed_kwh
 
 HEADS = ("site", "station", "transactionId", "state", "missing", "gaps", "since", "kwh")
 SILENT = """
-select s.site, s.station, s.sent_id, s.state, s.missing, s.gaps, s.up - s.down as imported,
-    coalesce(s.received_until, s.last_at) as heard_at
-from session s left join rule_settled r on r.station = s.station and r.transaction_id = s.transaction_id
-where s.events > 0 and not s.complete and coalesce(s.received_until, s.last_at) < :before and r.station is null
-order by s.site, s.station, s.transaction_id
+select site, station, sent_id, state, missing, gaps, imported, heard_at from lacking where heard_at < :before
+order by site, station, transaction_id
 """
 
 

@@ -1,16 +1,17 @@
 """Takes records of a source into a store: the plan first, then messages and operators' lines in batches."""
 
 from collections import Counter, deque
-from collections.abc import Collection, Mapping
+from collections.abc import Collection, Iterable, Mapping
 from dataclasses import dataclass, field, replace
 
 from ocpp_board.commands.options import find_by_site
 from ocpp_board.ledger.engine import Pool, change_site, settle, take_strays
 from ocpp_board.ledger.settlers import Pending, Settlers
-from ocpp_board.records import Answer, Asked, Limits, Rules
+from ocpp_board.records import Answer, Asked, LeftOut, Limits, Rules
 from ocpp_board.sources.script import Declaration
 from ocpp_board.sources.stations import PlanOptions
 from ocpp_board.store.database import Database
+from ocpp_board.store.lines import note_left_out
 from ocpp_board.store.plan import Author, find_rules, write_station
 
 # Records that are settled at once, and how many such batches are under way at once where processes share them.
@@ -69,7 +70,8 @@ class Declared:
 
 class Loader:
     """Takes records into a store. `counts`: how many of them became what; `changed`: the stations and transactions that
-    something was accepted of, and the stations of which something was refused, with no transaction.
+    something was accepted of, and the stations of which something was refused, with no transaction; what processes
+    settle is not in it.
     """
 
     def __init__(
@@ -83,7 +85,7 @@ class Loader:
         """`pool`: processes that share the work of a batch; `settlers`: processes that settle what `submit` gets."""
         self.store, self.wanted, self.author, self.pool = store, wanted, author, pool
         self.settlers = settlers
-        self.under_way = deque[tuple[list[Asked], Pending]]()
+        self.under_way = deque[Pending]()
         self.counts = Counter[str]()
         self.changed = set[tuple[str, str | None]]()
         self.site_of = {
@@ -115,6 +117,13 @@ class Loader:
         change_site(self.store, site, rules, self.author)
         self.sites.add(site)
 
+    def note_left_out(self, found: Iterable[LeftOut]) -> None:
+        """Notes stations whose messages are left out for their version."""
+        some = list(found)
+        if some:
+            with self.store.transaction():
+                note_left_out(self.store, some)
+
     def take_strays(self, stations: Collection[str]) -> None:
         """Takes what came of stations before the plan had them."""
         asked = "select distinct station from stray"
@@ -136,20 +145,14 @@ class Loader:
         if self.settlers is None:
             self.settle(asked)
             return
-        self.under_way.append((asked, self.settlers.submit(asked)))
+        self.under_way.append(self.settlers.submit(asked))
         if len(self.under_way) > MOST_UNDER_WAY:
-            self.take_answers()
-
-    def take_answers(self) -> None:
-        """Waits for the answers to the records that were submitted first."""
-        asked, pending = self.under_way.popleft()
-        for one, answer in zip(asked, pending.get()):
-            self.note(one.station, answer)
+            self.counts += self.under_way.popleft().get()
 
     def finish(self) -> None:
-        """Waits for the answers to all records."""
+        """Waits for what was submitted."""
         while self.under_way:
-            self.take_answers()
+            self.counts += self.under_way.popleft().get()
 
     def note(self, station: str, answer: Answer) -> None:
         """Counts an answer, and notes what it changed."""

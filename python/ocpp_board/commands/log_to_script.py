@@ -50,7 +50,7 @@ from ocpp_board.limits import (
 from ocpp_board.messages.texts import Refused
 from ocpp_board.processes import end_without_reader
 from ocpp_board.progress import Progress
-from ocpp_board.records import Untaken
+from ocpp_board.records import Message, Untaken
 from ocpp_board.sources import forms
 from ocpp_board.sources.files import open_input, read_lines, unpack
 from ocpp_board.sources.forms import Shape, choose_shape
@@ -156,9 +156,11 @@ class ScriptPlan(StationPlan):
 def write_read(read: Read, has_received: bool) -> bytes:
     """The lines of a script that a message becomes: in front of it a comment with what came, if it was mended, and one
     with its receipt where that is wanted."""
-    message = read.message
-    if message is None:
-        return b""
+    return b"".join(write_message(message, has_received) for message in read.messages)
+
+
+def write_message(message: Message, has_received: bool) -> bytes:
+    """The lines of a script that one message becomes."""
     moment = write_moment(message.received)
     came = (
         write_comment(message.mends.split(","), message.station, message.came)
@@ -247,7 +249,9 @@ class Scripts(Script):
             for path, out, share in zip(paths, outs, shares):
                 out.write(self.plan.ask_boards(share))
                 if out.tell() > LONGEST_SCRIPT:
-                    raise UsageError(f"{path} has more than {LONGEST_SCRIPT:,} bytes: part the log")
+                    raise UsageError(
+                        f"{path} has more than {LONGEST_SCRIPT:,} bytes: split the log"
+                    )
                 sites = ", ".join(dict.fromkeys(share.values()))
                 log.info("%s: %d stations of %s", path, len(share), sites)
 
@@ -407,8 +411,9 @@ def add_script(parser: argparse.ArgumentParser) -> None:
     parser.add_argument(
         "--received",
         dest="is_received",
-        action="store_true",
-        help="a comment `# received <time>` before each message, if the log has its time",
+        action=argparse.BooleanOptionalAction,
+        default=True,
+        help="a comment `# received <time>` before each message, if the log has its time (without it, none)",
     )
     parser.add_argument(
         "--split",

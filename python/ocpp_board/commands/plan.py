@@ -2,7 +2,7 @@
 
     ocpp-board plan --store ledger.db
     ocpp-board plan --store ledger.db site north --zone Europe/Berlin --why "opened"
-    ocpp-board plan --store ledger.db station CS-01 CS-02 --site north --why "built"
+    ocpp-board plan --store ledger.db station CS-01 CS-02 --site north --most-kw 22 --why "built"
     ocpp-board plan --store ledger.db retire CS-02 --why "removed"
     ocpp-board plan --store ledger.db csv plan.csv --why "the operator's list of March"
 
@@ -12,8 +12,9 @@ period, its order of readings, its rule of settling and its zone are fixed. A st
 the transactions that it began where they are. What came of a station before the plan had it is taken then. Each change
 is kept with who, when, before, after and why.
 
-The columns of a CSV file are `site` and `station`, and of rules, which may be left out: `period`, `order`, `settle`,
-`zone`, `events`, `readings`, `most_kw`. A row without a station is of the site only.
+The columns of a CSV file are `site`, `station`, `station_kw`, and of rules, which may be left out: `period`, `order`,
+`settle`, `zone`, `events`, `readings`, `most_kw`, `reading_within`, `resolution`. A row without a station is of the
+site only.
 """
 
 import argparse
@@ -27,9 +28,9 @@ from dataclasses import replace
 from pathlib import Path
 from typing import Any
 
-from ocpp_board.commands.options import add_program, add_store, choose_program
+from ocpp_board.commands.options import add_program, add_store, choose_program, read_power
 from ocpp_board.errors import InputError, UsageError
-from ocpp_board.ledger.engine import change_site, take_strays
+from ocpp_board.ledger.engine import change_power, change_site, take_strays
 from ocpp_board.limits import ORDERS, PERIODS
 from ocpp_board.limits import RULES as SETTLES
 from ocpp_board.records import Rules
@@ -40,8 +41,9 @@ from ocpp_board.store.plan import Author, find_rules, list_values, retire_statio
 ENDING = """\
 Exit status: 0 when the plan is as asked; 1 when a name, a rule or a row can't be taken, and then nothing of this
 command was changed but rows in front of it; 2 when the words are wrong or the store or a file can't be used."""
-RULES = ("period", "order", "settle", "zone", "events", "readings", "most_kw")
-NUMBERS = ("period", "events", "readings", "most_kw")
+NUMBERS = ("period", "events", "readings", "most_kw", "reading_within", "resolution")
+RULES = ("period", "order", "settle", "zone", *NUMBERS[1:])
+OWN_KW = "station_kw"
 # Modules with further words, each with `add_plan_words(subparsers)`.
 MORE = ("ocpp_board.commands.plan_passwords", "ocpp_board.commands.plan_operators")
 
@@ -60,9 +62,24 @@ def add_words(parser: argparse.ArgumentParser) -> None:
     site.add_argument("--events", type=int, help="how many events a transaction may keep")
     site.add_argument("--readings", type=int, help="how many readings a transaction may keep")
     site.add_argument("--most-kw", type=int, help="the greatest power of an EVSE that can be")
+    site.add_argument(
+        "--reading-within",
+        type=int,
+        metavar="SECONDS",
+        help="how far from a session's start and end its first and last reading may be (at first 300)",
+    )
+    site.add_argument(
+        "--resolution",
+        type=int,
+        metavar="WH",
+        help="a register that falls by less has not fallen (at first 10 Wh)",
+    )
     station = add_word(group, "station", "adds stations, or moves them", write_stations)
     station.add_argument("stations", nargs="+", metavar="STATION")
     station.add_argument("--site", required=True, help="the site that they belong to")
+    station.add_argument(
+        "--most-kw", type=read_power, metavar="KW", help="the greatest power of one of their EVSEs"
+    )
     retire = add_word(group, "retire", "ends stations; their transactions stay", retire_stations)
     retire.add_argument("stations", nargs="+", metavar="STATION")
     table = add_word(group, "csv", "adds and changes what a CSV file lists", write_table)
@@ -100,9 +117,10 @@ def run(words: argparse.Namespace) -> int:
 def list_plan(store: Database) -> int:
     """Writes the plan as CSV."""
     table = csv.writer(sys.stdout, lineterminator="\n")
-    table.writerow(["site", "station", *RULES])
+    table.writerow(["site", "station", OWN_KW, *RULES])
     for row in store.fetch(
-        """select i.site, t.station, i.period, i.reading_order, i.settle, i.zone, i.events, i.readings, i.most_kw
+        """select i.site, t.station, t.most_kw as own_kw, i.period, i.reading_order, i.settle, i.zone, i.events,
+            i.readings, i.most_kw, i.reading_within, i.resolution
         from site i left join station t on t.site = i.site and t.until is null
         order by i.place, i.site, t.place, t.station"""
     ):
@@ -116,8 +134,8 @@ def merge_rules(store: Database, site: str, named: Mapping[str, Any]) -> Rules:
     limits = {name: named[name] for name in ("events", "readings") if named.get(name) is not None}
     others = {
         name: named[name]
-        for name in ("period", "order", "settle", "zone", "most_kw")
-        if named.get(name) is not None
+        for name in RULES
+        if name not in ("events", "readings") and named.get(name) is not None
     }
     return replace(rules, limits=replace(rules.limits, **limits), **others)
 
@@ -147,6 +165,9 @@ def write_stations(store: Database, words: argparse.Namespace, author: Author) -
             for station in words.stations
         )
     print(f"{words.site}: {changed:,} stations added or moved")
+    if words.most_kw:
+        for station in words.stations:
+            change_power(store, station, words.most_kw, author, "plan station")
     return report_strays(store, words.stations)
 
 
@@ -180,6 +201,11 @@ def write_table(store: Database, words: argparse.Namespace, author: Author) -> i
             with store.transaction():
                 if write_station(store, row["station"], row["site"], author, where):
                     stations.append(row["station"])
+            if own_kw := row.get(OWN_KW):
+                try:
+                    change_power(store, row["station"], read_power(own_kw), author, where)
+                except argparse.ArgumentTypeError as fault:
+                    raise InputError(f"{where}: {fault}") from None
     print(f"{len(stations):,} stations added or moved")
     return report_strays(store, stations)
 
@@ -190,13 +216,13 @@ def read_table(path: Path) -> list[tuple[int, dict[str, str]]]:
         with open(path, encoding="utf-8-sig", newline="") as file:
             table = csv.DictReader(file)
             heads = table.fieldnames or []
-            unknown = [name for name in heads if name not in ("site", "station", *RULES)]
+            unknown = [name for name in heads if name not in ("site", "station", OWN_KW, *RULES)]
             if "site" not in heads or unknown:
                 wrong = (
                     f"no column {unknown[0]!r} is known" if unknown else "there is no column `site`"
                 )
                 raise InputError(
-                    f"{path}: {wrong}; the columns are site, station, {', '.join(RULES)}"
+                    f"{path}: {wrong}; the columns are site, station, {OWN_KW}, {', '.join(RULES)}"
                 )
             return [(table.line_num, read_row(row)) for row in table]
     except (OSError, UnicodeDecodeError, csv.Error) as fault:

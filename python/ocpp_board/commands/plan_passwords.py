@@ -2,7 +2,7 @@
 
     ocpp-board plan --store ledger.db password CS-01 --why "a new station"
     ocpp-board plan --store ledger.db password CS-01 --why "it is known to others" --at-once < FILE
-    ocpp-board plan --store ledger.db quota north --most-open 20 --most-bytes 50000000 --why "hostile stations"
+    ocpp-board plan --store ledger.db quota north --most-open 20 --most-rate 2 --why "hostile stations"
 """
 
 import argparse
@@ -17,7 +17,7 @@ from ocpp_board.passwords import LONGEST, SHORTEST, find_mistake
 from ocpp_board.statuses import Status
 from ocpp_board.store.database import Database
 from ocpp_board.store.plan import Author
-from ocpp_board.store.stations import set_password, write_quota
+from ocpp_board.store.stations import QUOTAS, set_password, write_quota
 
 ABOUT = f"""\
 Sets the password by which gateways let a station in (HTTP Basic, OCPP 2.0.1 Part 2, BasicAuthPassword): {SHORTEST} to
@@ -25,9 +25,9 @@ Sets the password by which gateways let a station in (HTTP Basic, OCPP 2.0.1 Par
 store keeps a salted hash of it. What the station came with last stays good until it comes with the new one, and its
 connection goes on."""
 QUOTA = """\
-Sets what each station of a site may send: what is above is refused by the quota's name, TooManyOpen or TooManyBytes, is
-listed among the refused messages, and is counted by gateways. A site has none at first. Quotas are for hostile or
-broken stations: an event that is refused is lost unless the station sends it again later."""
+Sets what each station of a site may send: what is above is refused by the quota's name, TooManyOpen, TooManyBytes or
+TooManyMessages, is listed among the refused messages, and is counted by gateways. A site has none at first. Quotas are
+for hostile or broken stations: an event that is refused is lost unless the station sends it again later."""
 # Characters of a password that is made here.
 MADE, LETTERS = 24, string.ascii_letters + string.digits
 
@@ -60,6 +60,11 @@ def add_quota(group: Any) -> None:
     parser.add_argument("site", metavar="SITE")
     parser.add_argument("--most-open", type=int, help="transactions without an end; 0: any number")
     parser.add_argument("--most-bytes", type=int, help="bytes of messages a day; 0: any number")
+    parser.add_argument(
+        "--most-rate",
+        type=int,
+        help="messages a second at a gateway, over a minute; 0: any number",
+    )
     parser.add_argument("--why", required=True, metavar="REASON", help="the reason, which is kept")
     parser.add_argument("--who", help="who asks for it (default: the user of this session)")
     parser.set_defaults(change=change_quota)
@@ -67,11 +72,9 @@ def add_quota(group: Any) -> None:
 
 def change_quota(store: Database, words: argparse.Namespace, author: Author) -> int:
     """Sets quotas."""
-    for name in ("most_open", "most_bytes"):
-        if (getattr(words, name) or 0) < 0:
-            raise UsageError(f"--{name.replace('_', '-')} is less than 0; give 0 for any number")
-    quota = write_quota(store, words.site, author, words.most_open, words.most_bytes)
-    print(f"{words.site}: most_open {quota[0]}, most_bytes {quota[1]}")
+    named = {name: getattr(words, name) for name in QUOTAS}
+    quota = write_quota(store, words.site, author, named)
+    print(f"{words.site}: " + ", ".join(f"{name} {value}" for name, value in quota.items()))
     return Status.DONE
 
 

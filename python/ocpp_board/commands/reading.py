@@ -8,11 +8,10 @@ import sys
 import time
 import zlib
 from collections.abc import Iterator, Sequence
-from dataclasses import dataclass, field, fields
+from dataclasses import dataclass, field
 from datetime import datetime
 from io import BufferedReader
-from operator import attrgetter
-from typing import IO, Any
+from typing import IO
 
 from ocpp_board import progress
 from ocpp_board.commands.loading import BATCH, Declared
@@ -21,7 +20,7 @@ from ocpp_board.errors import UsageError
 from ocpp_board.escapes import shown
 from ocpp_board.limits import LONGEST_LINE
 from ocpp_board.messages.texts import Refused
-from ocpp_board.records import Asked, Deed, Message, Rules, Untaken
+from ocpp_board.records import Asked, LeftOut, Rules, Untaken
 from ocpp_board.sources.files import open_input, read_lines, unpack
 from ocpp_board.sources.forms import Shape
 from ocpp_board.sources.lines import FORMS as WORDS
@@ -37,8 +36,6 @@ PAUSE, LINES = 1.0, 4_096
 FRONT = 262_400
 # The words with which lines of scripts begin.
 SCRIPT = tuple(f"{word} ".encode() for word in WORDS)
-RECORDS: tuple[Any, ...] = (Message, Deed, Untaken)
-FIELDS = {kind: attrgetter(*(one.name for one in fields(kind))) for kind in RECORDS}
 
 
 @dataclass(frozen=True)
@@ -61,16 +58,8 @@ class Batch:
     rules: dict[str, Rules] = field(default_factory=dict)
     lines: int = 0
     untaken: int = 0
-
-    def __getstate__(self) -> tuple[Any, ...]:
-        """What goes to another process: records as plain tuples."""
-        rows = [(RECORDS.index(type(one)), FIELDS[type(one)](one)) for one in self.records]
-        return rows, self.site_of, self.rules, self.lines, self.untaken
-
-    def __setstate__(self, state: tuple[Any, ...]) -> None:
-        """What came from another process."""
-        rows, self.site_of, self.rules, self.lines, self.untaken = state
-        self.records = [RECORDS[kind](*values) for kind, values in rows]
+    # Stations that were left out for their version.
+    left_out: list[LeftOut] = field(default_factory=list)
 
 
 class Meter:
@@ -196,6 +185,7 @@ class BatchReader:
             mistakes.report(number, why)
             self.batch.untaken += 1
         self.batch.lines += reader.counts["lines"]
+        self.batch.left_out += reader.take_left_out()
         yield self.end_batch()
         self.meter.end()
         mistakes.end()
@@ -214,13 +204,11 @@ class BatchReader:
             return
         if read.note:
             mistakes.report(number, read.note)
-        message = read.message
-        if message is None:
-            return
         batch = self.batch
-        batch.records.append(message)
-        if message.site and message.station not in batch.site_of:
-            batch.site_of[message.station] = message.site
+        for message in read.messages:
+            batch.records.append(message)
+            if message.site and message.station not in batch.site_of:
+                batch.site_of[message.station] = message.site
 
     def refuse(
         self,

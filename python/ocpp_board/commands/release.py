@@ -1,4 +1,4 @@
-"""Release sessions that are held, or list them.
+"""Releases sessions that are held, or lists them.
 
     ocpp-board release --store ledger.db --site north
     ocpp-board release --store ledger.db CS-01 T-4711 --why "compared with the meter"

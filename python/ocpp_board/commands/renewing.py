@@ -1,14 +1,16 @@
 """Renews pages and tables of what changed in a store."""
 
 import logging
-from collections.abc import Collection, Sequence
+from collections.abc import Callable, Collection, Sequence
+from copy import copy
 from dataclasses import dataclass, replace
 from datetime import date, datetime, timedelta, timezone
 from pathlib import Path
 
-from ocpp_board.store.database import Database, Row
+from ocpp_board.store.database import Database, Row, count_hours, open_again
 from ocpp_board.writers import pages
 from ocpp_board.writers.calendar import find_calendar
+from ocpp_board.writers.copies import share_work
 from ocpp_board.writers.tables import Book, Site, SiteTables, TableOptions, TableWriter
 from ocpp_board.writers.tables import list_sites
 
@@ -20,8 +22,11 @@ MARK = ".renewed"
 LATE = timedelta(seconds=60)
 # Days of a transaction whose tables are written.
 MOST_DAYS = 400
+# Days whose tables are read at once.
+SPAN = 7
 
 Changed = Collection[tuple[str, str | None]]
+Span = tuple[Site, Sequence[date]]
 
 
 @dataclass(frozen=True)
@@ -38,10 +43,14 @@ class Shown:
 class Renewer:
     """Writes what changed since it was written. What other processes changed is found by the moments of rows."""
 
-    def __init__(self, store: Database, shown: Shown) -> None:
-        self.store, self.shown = store, shown
+    def __init__(self, store: Database, shown: Shown, workers: int = 1) -> None:
+        """`workers`: how many processes write what is written at first."""
+        self.store, self.shown, self.workers = store, shown, workers
         self.options = pages.PageOptions(
-            tokens=shown.tables.tokens, refresh=max(1, round(shown.every)), oldest=shown.oldest
+            tokens=shown.tables.tokens,
+            refresh=max(1, round(shown.every)),
+            oldest=shown.oldest,
+            workers=workers,
         )
         self.writer = pages.PageWriter(store, shown.out, self.options)
         self.book = Book(store)
@@ -84,6 +93,7 @@ class Renewer:
         if found:
             self.pages += self.writer.write_changed(found)
             self.write_tables(found, rows)
+        self.pages += self.writer.write_new_closings()
         if found or now > self.mark + LATE / 2:
             self.note_seen(now)
             self.write_mark(now)
@@ -92,8 +102,9 @@ class Renewer:
         """The transactions that changed since a moment and were not written since."""
         rows = self.store.fetch(
             "select station, transaction_id, site, first_at, last_at, changed_at from session "
-            "where changed_at >= :mark",
+            "where changed_hour >= :hour and changed_at >= :mark",
             mark=mark - LATE,
+            hour=count_hours(mark - LATE),
         )
         new = [
             row
@@ -109,18 +120,32 @@ class Renewer:
 
     def write_all_tables(self) -> None:
         """Writes the tables of all days, and the others. Raises OSError."""
+        spans = list[Span]()
         for site in list_sites(self.store):
             rows = self.store.fetch(
                 "select distinct first_at, last_at from session where site = :site and events > 0",
                 site=site.site,
             )
             days = {day for one in rows for day in list_days(site, one.first_at, one.last_at)}
-            self.write_days(site, days)
+            spans += [(site, some) for some in part_days(sorted(days))]
             self.make_tables(site, None).write_findings()
             self.tables += 1
             self.write_others(site)
+        self.tables += share_work(spans, self.workers, self.write_span, self.open_copy)
         self.others = self.count_others()
         self.tables += self.table_writer.write_strays()
+
+    def open_copy(self) -> Callable[[Span], int]:
+        """What writes tables of days in a copy of this process."""
+        own = copy(self)
+        own.store = open_again(self.store)
+        own.book = Book(own.store)
+        own.book.sites = self.book.sites
+        return own.write_span
+
+    def write_span(self, span: Span) -> int:
+        """Writes the tables of days that follow one another. Raises OSError."""
+        return self.make_tables(span[0], span[1][0]).write_days(span[1])
 
     def write_tables(self, found: Changed, rows: list[Row]) -> None:
         """Writes the tables of what changed. Raises OSError."""
@@ -158,15 +183,13 @@ class Renewer:
         rows = self.store.fetch_each(asked, [{"station": station} for station in stations])
         return sorted({row.site for some in rows for row in some})
 
-    def write_days(
-        self, site: Site, days: Collection[date], stations: Sequence[str] | None = None
-    ) -> None:
-        """Writes the tables of days. `stations`: those of which something changed. Raises OSError."""
+    def write_days(self, site: Site, days: Collection[date], stations: Sequence[str]) -> None:
+        """Writes the tables of days, of which something changed of these stations. Raises OSError."""
         for day in sorted(days):
             one = self.make_tables(site, day)
             one.write_periods(stations)
             one.write_transactions(stations)
-            for station in [None] if stations is None else stations:
+            for station in stations:
                 one.write_signed(station)
             self.tables += 2
 
@@ -181,6 +204,16 @@ class Renewer:
         tables = SiteTables(self.store, out, site, options, day, self.book)
         tables.folder.mkdir(parents=True, exist_ok=True)
         return tables
+
+
+def part_days(days: Sequence[date]) -> list[Sequence[date]]:
+    """Parts days, which are in their order, so that those of a part are within some days."""
+    parts, first = list[Sequence[date]](), 0
+    for place, day in enumerate(days):
+        if (day - days[first]).days >= SPAN:
+            parts.append(days[first:place])
+            first = place
+    return [*parts, days[first:]] if days else []
 
 
 def list_days(site: Site, first: datetime | None, last: datetime | None) -> list[date]:

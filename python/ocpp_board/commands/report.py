@@ -27,22 +27,15 @@ from typing import Any
 
 from ocpp_board.commands.ahead import run_ahead
 from ocpp_board.commands.loading import Loader, Wanted
-from ocpp_board.commands.options import (
-    add_power,
-    add_program,
-    add_store,
-    add_tokens,
-    add_zones,
-    choose_program,
-)
-from ocpp_board.commands.reading import BatchReader, Meter, ReadOptions
+from ocpp_board.commands.options import add_log_options, add_store, choose_program
+from ocpp_board.commands.reading import Batch, BatchReader, Meter, ReadOptions
 from ocpp_board.errors import InputError
 from ocpp_board.ledger.settlers import Settlers
 from ocpp_board.ledger.verify import verify
-from ocpp_board.processes import leave_interrupts
+from ocpp_board.processes import leave_interrupts, pause_collector
 from ocpp_board.sources import forms
 from ocpp_board.sources.forms import Shape, choose_shape
-from ocpp_board.sources.stations import add_rules, add_sites, add_utc, choose_plan
+from ocpp_board.sources.stations import add_sites, choose_plan
 from ocpp_board.statuses import Status
 from ocpp_board.store.database import Database, open_again, open_store
 from ocpp_board.store.plan import Author
@@ -83,21 +76,14 @@ def add_words(parser: argparse.ArgumentParser) -> None:
     )
     parser.add_argument("--out", metavar="DIR", type=Path, required=True, help="where files go")
     add_store(parser, is_required=False)
-    forms.add_form(parser)
-    forms.add_fields(parser, forms.FIELDS)
+    add_log_options(parser, forms.FIELDS)
     add_sites(parser)
     parser.add_argument(
         "--stations",
         metavar="FILE",
         help="the stations: a site and a station a line; messages of others are listed and change nothing",
     )
-    add_utc(parser)
-    add_rules(parser)
-    add_zones(parser)
-    add_power(parser)
-    add_tokens(parser)
     add_tables(parser)
-    add_program(parser)
     parser.add_argument(
         "--processes",
         metavar="N",
@@ -182,7 +168,7 @@ class Report:
     """Takes logs and scripts into a store, and writes what is to be seen of it."""
 
     def __init__(self, options: Options, store: Database, settlers: Settlers | None) -> None:
-        self.options, self.store, self.settlers = options, store, settlers
+        self.options, self.store = options, store
         author = Author("report", f"read from {', '.join(options.logs)}"[:200])
         self.loader = Loader(store, options.wanted, author, settlers=settlers)
         self.lines, self.untaken = 0, 0
@@ -192,13 +178,19 @@ class Report:
         options = self.options
         asked = ReadOptions(options.shape, options.wanted.plan, options.is_utc, options.is_script)
         reader = BatchReader(asked, options.logs, self.loader.site_of)
-        for batch in run_ahead(reader.read, is_apart=self.settlers is not None):
-            self.lines += batch.lines
-            self.untaken += batch.untaken
-            self.loader.plan(batch.site_of, batch.rules)
-            if batch.records:
-                self.loader.submit(batch.records)
+        with pause_collector():
+            for batch in reader.read():
+                self.take(batch)
         self.loader.finish()
+
+    def take(self, batch: Batch) -> None:
+        """Takes what was read at once. Raises OcppBoardError."""
+        self.lines += batch.lines
+        self.untaken += batch.untaken
+        self.loader.plan(batch.site_of, batch.rules)
+        self.loader.note_left_out(batch.left_out)
+        if batch.records:
+            self.loader.submit(batch.records)
 
     def describe(self) -> str:
         """What became of all lines, in words."""
@@ -317,8 +309,7 @@ def write_pages(options: Options, store: Database) -> int:
         last=options.tables.last,
         workers=options.processes,
     )
-    pages.write_pages(store, options.out, asked)
-    return sum(1 for _ in options.out.rglob("*.html"))
+    return pages.write_pages(store, options.out, asked)
 
 
 def find_until(store: Database) -> datetime | None:

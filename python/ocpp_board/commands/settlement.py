@@ -1,4 +1,4 @@
-"""Write a site's month of energy by metering point, as a settlement file.
+"""Writes a site's month of energy by metering point, as a settlement file.
 
     ocpp-board settlement --store ledger.db --site north --month 2026-03 --points points.csv > north.csv
 

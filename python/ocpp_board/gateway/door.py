@@ -35,10 +35,13 @@ class Verdict(Enum):
 
 
 class Known(NamedTuple):
-    """What the store has of a station: whether the plan has it, and its passwords, the newest one first."""
+    """What the store has of a station: whether the plan has it, its passwords, the newest one first, its site, and the
+    messages a second that the site's quota allows."""
 
     is_planned: bool
     passwords: tuple[Password, ...] = ()
+    site: str = ""
+    most_rate: int = 0
 
 
 Find = Callable[[str], Awaitable[Known]]

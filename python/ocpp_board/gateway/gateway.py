@@ -1,13 +1,14 @@
 """A gateway: stations' connections, and what answers them."""
 
 import asyncio
+import inspect
 import logging
 import os
 import secrets
 import signal
 import time
 from collections import Counter
-from collections.abc import Sequence
+from collections.abc import Awaitable, Callable, Sequence
 from dataclasses import dataclass, field
 from typing import Any
 
@@ -20,6 +21,8 @@ from ocpp_board.gateway.door import Door, Known
 from ocpp_board.gateway.lanes import Lanes
 from ocpp_board.gateway.lookouts import Clerk, Gatherer, Lookout, Served
 from ocpp_board.gateway.metrics import Repeated, serve_figures
+from ocpp_board.gateway.pace import Pace
+from ocpp_board.gateway.settler import KEEP_REFUSED
 from ocpp_board.passwords import Password
 from ocpp_board.gateway.station_socket import (
     HANDSHAKE,
@@ -31,10 +34,11 @@ from ocpp_board.gateway.station_socket import (
     make_socket,
 )
 from ocpp_board.store import stations
+from ocpp_board.store.stations import Change
 
 log = logging.getLogger(__name__)
 
-PROTOCOL = Subprotocol("ocpp2.0.1")
+PROTOCOL, PILOT = Subprotocol("ocpp2.0.1"), Subprotocol("ocpp2.1")
 # Bytes of a message: a longer one ends its connection with close code 1009.
 LONGEST = 524_288
 # Messages of one connection that are read before the first of them has its reply; OCPP has one.
@@ -64,8 +68,14 @@ class Options:
     lanes: int = 2
     # Whether each station of the plan is let in without a password.
     open: bool = False
+    # Whether a message that conflicts or is above a limit has the answer of an accepted one, once it is on disk.
+    keep_refused: bool = False
+    # Whether stations may speak OCPP 2.1.
+    pilot: bool = False
     proxy: list[str] = field(default_factory=list)
     metrics: tuple[str, int] | None = None
+    # Hours after which a session that lacks messages is silent.
+    silent: int = 24
 
 
 class Gateway:
@@ -74,7 +84,10 @@ class Gateway:
     def __init__(self, options: Options, files: Files) -> None:
         self.options = options
         self.name = f"{os.uname().nodename}-{os.getpid()}-{secrets.token_hex(4)}"
-        self.lanes = Lanes([options.store], options.lanes, options.patience)
+        words = [options.store, *([KEEP_REFUSED] if options.keep_refused else [])]
+        self.lanes = Lanes(words, options.lanes, options.patience)
+        # The subprotocols that are offered, the best first.
+        self.protocols = [PROTOCOL, *([PILOT] if options.pilot else [])]
         self.clerk = Clerk(options.store)
         self.finder = Gatherer(self.clerk, stations.find_stations)
         self.seen = Gatherer(self.clerk, stations.note_seen)
@@ -85,10 +98,13 @@ class Gateway:
         # The connection of each station, and how many there were.
         self.served: dict[str, StationSocket] = {}
         self.let_in = 0
+        # What the plan had of stations that came, and what they sent lately.
+        self.known: dict[str, Known] = {}
+        self.paces: dict[str, Pace] = {}
         self.counts = Counter[str]()
         self.repeated = Repeated()
         # Messages of stations that no site has, and seconds since the last closing of sites.
-        self.strays, self.closing_ages = 0, dict[str, float]()
+        self.figures = stations.StoreFigures()
         self.jobs: set[asyncio.Task[Any]] = set()
         self.is_ending = asyncio.Event()
         # When the event loop ran last.
@@ -100,7 +116,7 @@ class Gateway:
         """Serves a station that was let in, until its connection ends."""
         socket = protocol
         assert isinstance(socket, StationSocket)
-        if socket.subprotocol != PROTOCOL:
+        if socket.subprotocol not in self.protocols:
             return await socket.close(PROTOCOL_ERROR, f"the subprotocol {PROTOCOL} is not offered")
         if older := self.served.get(socket.name):
             self.replace(older)
@@ -142,8 +158,17 @@ class Gateway:
 
     async def find(self, station: str) -> Known:
         """What the store has of a station. Raises StoreError."""
-        rows = await self.finder.ask(station) if station else None
-        return Known(rows is not None, tuple(Password(*row) for row in rows or ()))
+        planned = await self.finder.ask(station) if station else None
+        if planned is None:
+            self.known.pop(station, None)
+            return Known(False)
+        self.known[station] = Known(True, planned.passwords, planned.site, planned.most_rate)
+        return self.known[station]
+
+    def find_most_rate(self, station: str) -> int:
+        """How many messages a second the quota of a station's site allows; 0: any number."""
+        known = self.known.get(station)
+        return known.most_rate if known else 0
 
     async def note_seen(self, station: str, password: Password) -> bool:
         """Notes that a station came with a password, which ends an older one. Whether it has it still. Raises
@@ -167,11 +192,14 @@ class Gateway:
             del self.served[served.station]
             self.replace(socket)
 
-    def hear_changed(self, names: Sequence[str]) -> None:
-        """Stations whose plan changed: a retired one, and one that came with a password that ended, has to go."""
-        for name in names:
-            if name in self.served:
-                self.spawn(self.look_again(name))
+    def hear_changed(self, changes: Sequence[Change]) -> None:
+        """Stations or their sites whose plan changed: a retired station, and one that came with a password that ended,
+        has to go."""
+        stations = {one.name for one in changes if one.what != "site"}
+        if sites := {one.name for one in changes if one.what == "site"}:
+            stations |= {name for name, known in self.known.items() if known.site in sites}
+        for name in stations & self.served.keys():
+            self.spawn(self.look_again(name))
 
     async def look_again(self, station: str) -> None:
         """Ends a station's connection where it could not come in any more."""
@@ -190,16 +218,20 @@ class Gateway:
     # --- the run -------------------------------------------------------------------------------------------------
 
     async def tick(self) -> None:
-        """Notes again and again that the event loop runs."""
+        """Notes again and again that the event loop runs, and forgets what stations sent some time ago."""
         while True:
             self.ran = time.monotonic()
             await asyncio.sleep(1)
+            over = [name for name, pace in self.paces.items() if pace.is_over(self.ran)]
+            for name in over:
+                if name not in self.served:
+                    del self.paces[name]
 
     async def read_figures(self) -> None:
         """Reads what the store says of itself, for who watches."""
         while self.options.metrics:
             try:
-                self.strays, self.closing_ages = await self.clerk.run(stations.read_figures)
+                self.figures = await self.clerk.run(stations.read_figures, self.options.silent)
             except StoreError as fault:
                 log.debug("%s", fault)
             await asyncio.sleep(FIGURES)
@@ -230,11 +262,11 @@ class Gateway:
         more: dict[str, Any] = {"ssl_handshake_timeout": HANDSHAKE} if context else {}
         try:
             server = await serve(
-                self.serve_station,
+                make_handler(self),
                 self.options.host,
                 self.options.port,
                 create_protocol=make_socket(self),
-                subprotocols=[PROTOCOL],
+                subprotocols=self.protocols,
                 compression=None,
                 logger=SILENT,
                 server_header=None,
@@ -271,6 +303,16 @@ class Gateway:
             await asyncio.wait([asyncio.ensure_future(server.wait_closed())], timeout=LAST)
             for job in jobs:
                 job.cancel()
+
+
+def make_handler(gateway: Gateway) -> Callable[[WebSocketServerProtocol], Awaitable[None]]:
+    """What serves a connection. The library asks for its signature with each connection, so that is kept."""
+
+    async def serve_station(protocol: WebSocketServerProtocol) -> None:
+        await gateway.serve_station(protocol)
+
+    serve_station.__signature__ = inspect.signature(serve_station)  # type: ignore[attr-defined]
+    return serve_station
 
 
 def use_uvloop() -> None:

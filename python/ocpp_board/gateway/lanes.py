@@ -19,6 +19,7 @@ from enum import Enum
 from typing import Any, NamedTuple
 
 from ocpp_board.processes import MODULE, environment
+from ocpp_board.records import Message
 
 log = logging.getLogger(__name__)
 
@@ -34,9 +35,10 @@ class TooLate(Exception):
 
 
 class Fate(Enum):
-    """What became of a batch: answered, the store is away, or something is wrong with one of its messages."""
+    """What became of a batch: answered, the store is away, something is wrong with one of its messages, or there was no
+    answer in time."""
 
-    ANSWERED, AWAY, FAILED = range(3)
+    ANSWERED, AWAY, FAILED, LATE = range(4)
 
 
 class Settled(NamedTuple):
@@ -55,6 +57,12 @@ class Request(NamedTuple):
     text: str
     received: datetime
     origin: str
+    # The quota that the message is above, by which it is refused.
+    quota: str
+
+    def make_message(self) -> Message:
+        """The same, as it is settled."""
+        return Message(self.station, self.text, self.received, self.origin, quota=self.quota)
 
 
 @dataclass(slots=True, eq=False)
@@ -79,14 +87,14 @@ class Settler:
             async with asyncio.timeout(BATCH_TIME):
                 return await self.ask(requests)
         except TimeoutError:
-            why = f"a batch had no answer for {BATCH_TIME:.0f} seconds"
+            fate, why = Fate.LATE, f"a batch had no answer for {BATCH_TIME:.0f} seconds"
         except (OSError, EOFError) as fault:
-            why = f"the settling process ended ({type(fault).__name__})"
+            fate, why = Fate.AWAY, f"the settling process ended ({type(fault).__name__})"
         except asyncio.CancelledError:
             self.kill()
             raise
         self.kill()
-        return Settled(Fate.AWAY, [], why)
+        return Settled(fate, [], why)
 
     async def ask(self, requests: Sequence[Request]) -> Settled:
         """Hands a batch to the process, and reads what it answers."""
@@ -121,6 +129,8 @@ class Lane:
         self.queue: deque[Waiting] = deque()
         self.filled = asyncio.Event()
         self.is_up, self.last_logged = True, ""
+        # How many messages are settled at once.
+        self.most = BATCH
 
     def add(self, one: Waiting) -> None:
         """Takes a message."""
@@ -146,25 +156,29 @@ class Lane:
         return batch
 
     async def settle(self, batch: list[Waiting]) -> None:
-        """Settles a batch until it has answers or nobody waits for them."""
+        """Settles a batch until it has answers or nobody waits for them. One that had none in time is settled in
+        smaller ones, and one that can't be settled message by message."""
         while batch:
+            some = batch[: self.most]
             began = time.monotonic()
-            settled = await self.settler.settle([one.request for one in batch])
-            self.lanes.watch_batch(len(batch), time.monotonic() - began, settled)
-            if settled.fate is Fate.ANSWERED:
-                self.note("")
-                self.answer(batch, settled.answers)
-                return
+            settled = await self.settler.settle([one.request for one in some])
+            self.lanes.watch_batch(len(some), time.monotonic() - began, settled)
             self.note(settled.why)
-            if settled.fate is Fate.FAILED:
-                if len(batch) > 1:
-                    for one in batch:
-                        await self.settle([one])
-                    return
+            if settled.fate is Fate.ANSWERED:
+                self.answer(some, settled.answers)
+                self.most = min(BATCH, 2 * self.most)
+                batch = batch[len(some) :]
+                continue
+            if settled.fate is Fate.AWAY:
+                await asyncio.sleep(AGAIN)
+            elif settled.fate is Fate.LATE:
+                self.most = max(1, len(some) // 4)
+            elif len(some) > 1:
+                self.most = 1
+            else:
                 self.lanes.counts["failed"] += 1
-                log.error("%s: %s", batch[0].request.origin, settled.why)
-                return  # Its station is sent away once it waited for too long.
-            await asyncio.sleep(AGAIN)
+                log.error("%s: %s", some[0].request.origin, settled.why)
+                batch = batch[1:]  # Its station is sent away once it waited for too long.
             batch = [one for one in batch if not one.reply.done()]
 
     def note(self, why: str) -> None:
@@ -202,11 +216,11 @@ class Lanes:
         """Whether the last batch of each lane had answers."""
         return all(lane.is_up for lane in self.lanes)
 
-    async def ask(self, station: str, text: str, origin: str) -> str | None:
+    async def ask(self, station: str, text: str, origin: str, quota: str = "") -> str | None:
         """The reply to a station's message, once what it changes is stored; nothing where it gets none. Raises
         TooLate."""
         loop = asyncio.get_running_loop()
-        request = Request(station, text, datetime.now(timezone.utc), origin)
+        request = Request(station, text, datetime.now(timezone.utc), origin, quota)
         one = Waiting(request, loop.create_future())
         self.waiting.add(one)
         try:

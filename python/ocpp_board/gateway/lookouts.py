@@ -13,6 +13,7 @@ from typing import Any, Generic, NamedTuple, TypeVar
 from ocpp_board.errors import StoreError
 from ocpp_board.store import stations
 from ocpp_board.store.database import Database, open_store
+from ocpp_board.store.stations import Change
 
 log = logging.getLogger(__name__)
 
@@ -116,7 +117,7 @@ class Lookout:
         clerk: Clerk,
         name: str,
         hear_served: Callable[[Served], None],
-        hear_change: Callable[[Sequence[str]], None],
+        hear_change: Callable[[Sequence[Change]], None],
     ) -> None:
         """`name`: the gateway's."""
         self.clerk, self.name = clerk, name
@@ -159,6 +160,6 @@ class Lookout:
         served, changed = await self.clerk.run(stations.look_for_changes, self.name)
         for one in served:
             self.hear_served(Served(*one))
-        if news := [name for number, name in changed if number not in self.heard]:
+        if news := [one for one in changed if one.number not in self.heard]:
             self.hear_change(news)
-        self.heard = {number for number, _ in changed}
+        self.heard = {one.number for one in changed}

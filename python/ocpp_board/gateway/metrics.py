@@ -3,7 +3,7 @@
 import json
 import threading
 import time
-from collections.abc import Callable, Iterator
+from collections.abc import Callable, Iterator, Mapping
 from socketserver import ThreadingMixIn
 from typing import TYPE_CHECKING, Any
 from wsgiref.simple_server import WSGIRequestHandler, WSGIServer
@@ -66,6 +66,12 @@ class Figures:
         def counter(name: str, about: str, value: float) -> Any:
             return CounterMetricFamily(FRONT + name, about, value)
 
+        def by_site(name: str, about: str, values: Mapping[str, float]) -> Any:
+            family = GaugeMetricFamily(FRONT + name, about, labels=["site"])
+            for site, value in values.items():
+                family.add_metric([site], value)
+            return family
+
         info = GaugeMetricFamily(FRONT + "info", "The gateway's version.", labels=["version"])
         info.add_metric([version()], 1)
         yield info
@@ -92,22 +98,21 @@ class Figures:
         yield often
         paced = "How often a station had to wait because it sent too much."
         yield counter("paced", paced, gateway.counts["paced"])
-        yield gauge("lanes", "Batches that may be settled at once.", len(lanes.lanes))
+        yield gauge("lanes", "Batches that may be stored at once.", len(lanes.lanes))
         strays = "Messages of stations that no site has."
-        yield gauge("store_strays", strays, gateway.strays)
-        ages = GaugeMetricFamily(
-            FRONT + "store_closing_age_seconds",
-            "Seconds since the last closing of a site.",
-            labels=["site"],
-        )
-        for site, age in gateway.closing_ages.items():
-            ages.add_metric([site], age)
-        yield ages
+        yield gauge("store_strays", strays, gateway.figures.strays)
+        figures = gateway.figures
+        ages = "Seconds since the last closing of a site."
+        yield by_site("store_closing_age_seconds", ages, figures.closing_ages)
+        silent = f"Sessions that lack messages and are silent for {gateway.options.silent} hours."
+        yield by_site("store_silent_sessions", silent, figures.silent)
+        waiting = "Refused texts that wait for a decision."
+        yield by_site("store_refused_waiting", waiting, figures.waiting)
         counts = lanes.counts
         yield counter("batches", "Batches that were settled or tried.", counts["batches"])
         failed = "Batches that the store did not take, and that were tried again."
         yield counter("batches_failed", failed, counts["batches_failed"])
-        yield counter("failed", "Messages that could not be settled.", counts["failed"])
+        yield counter("failed", "Messages that could not be stored.", counts["failed"])
         given_up = "Messages without a reply in time; their connections were closed."
         yield counter("given_up", given_up, counts["given_up"])
         seconds = "Seconds of a processor of the settling processes."

@@ -102,6 +102,7 @@ class StationSocket(WebSocketServerProtocol):
         address = find_address(peer, named, self.gateway.options.proxy)
         verdict = await self.gateway.door.judge(self.name, address, given)
         if verdict is Verdict.RIGHT:
+            self.let_in()
             return None
         if verdict is Verdict.WRONG:
             return reject(http.HTTPStatus.UNAUTHORIZED, ASKED)
@@ -114,8 +115,13 @@ class StationSocket(WebSocketServerProtocol):
         except StoreError:
             return reject(http.HTTPStatus.SERVICE_UNAVAILABLE, "not at the moment: come again\n")
         if known.is_planned:
+            self.let_in()
             return None
         return reject(http.HTTPStatus.NOT_FOUND, f"no station {self.name!r} in the plan\n")
+
+    def let_in(self) -> None:
+        """Lets the station in: what it sent lately by other connections counts."""
+        self.pace = self.gateway.paces.setdefault(self.name, self.pace)
 
     # --- messages --------------------------------------------------------------------------------------------------
 
@@ -124,7 +130,6 @@ class StationSocket(WebSocketServerProtocol):
         frame = await super().read_frame(max_size)
         wait = self.pace.wait(len(frame.data), time.monotonic())
         if wait > 0:
-            self.pace.times += 1
             self.gateway.counts["paced"] += 1
             await asyncio.sleep(wait)
         return frame
@@ -132,7 +137,7 @@ class StationSocket(WebSocketServerProtocol):
     async def answer_messages(self) -> None:
         """Answers each message before it takes the next one, until the connection ends."""
         origin = f"ws {self.name}"
-        ask, name = self.gateway.lanes.ask, self.name
+        gateway, name = self.gateway, self.name
         try:
             while True:
                 text = await self.recv()
@@ -140,7 +145,8 @@ class StationSocket(WebSocketServerProtocol):
                     return await self.close(NO_BINARY, "a binary message")
                 if len(text) > LONGEST_MESSAGE // 4:
                     text = cut_text(text)
-                if (reply := await ask(name, text, origin)) is not None:
+                quota = self.pace.find_quota(gateway.find_most_rate(name), time.monotonic())
+                if (reply := await gateway.lanes.ask(name, text, origin, quota)) is not None:
                     await self.send(reply)
         except TooLate:
             await self.close(TRY_AGAIN, "no answer yet, try again")

@@ -1,6 +1,6 @@
 """The one reader of what the proved program writes: answers to lines, boards, and the lists of transactions."""
 
-from collections.abc import Iterator, Sequence
+from collections.abc import Iterable, Iterator, Sequence
 from dataclasses import dataclass, field
 from datetime import datetime, timezone
 from functools import lru_cache
@@ -10,21 +10,10 @@ from ocpp_board.energies import Flow
 from ocpp_board.errors import ProgramError
 from ocpp_board.messages.times import SECOND
 from ocpp_board.messages.transactions import Reading
+from ocpp_board.records import Answer
 
 # How many moments have their values kept, since many lines have the same.
 KEPT = 65_536
-# What the lines of readings begin with, and whether they are of the export register.
-REGISTERS = {"import": False, "export": True}
-
-
-class LineAnswer(NamedTuple):
-    """What a line was answered. `outcome`: as in `records.Answer`; `change`: the
-    number of an accepted change."""
-
-    outcome: str
-    name: str = ""
-    reply: str | None = None
-    change: int = 0
 
 
 class Wish(NamedTuple):
@@ -37,12 +26,13 @@ class Wish(NamedTuple):
 
 
 class Listed(NamedTuple):
-    """A live event."""
+    """An event of a list."""
 
     number: int
     kind: str
     at: float
     evse: int
+    is_live: bool
 
 
 class Placed(NamedTuple):
@@ -98,10 +88,12 @@ class Board:
 
 
 class Lists(NamedTuple):
-    """The live events of a transaction by their numbers, and the readings of the import and of the export register."""
+    """The lines of a transaction's lists: of its events by their numbers, voided ones included, and of the readings of
+    the import and of the export register, each with its parts of periods behind it."""
 
-    events: list[Listed]
-    readings: tuple[list[Placed], list[Placed]]
+    events: list[str]
+    imported: list[str]
+    exported: list[str]
 
 
 @lru_cache(KEPT)
@@ -117,21 +109,21 @@ def read_numbers(words: Sequence[str]) -> list[int]:
     return [int(word[word.index("=") + 1 :]) for word in words]
 
 
-def read_line_answer(line: str) -> LineAnswer:
-    """The answer to a line `deliver`, `void`, `restore` or `erase`."""
+def read_answer(line: str, transaction: str | None = None) -> Answer:
+    """The answer to a line `deliver`, `void`, `restore` or `erase` of a transaction."""
     word, _, rest = line.partition(" ")
     if word == "accepted":
         count, _, reply = rest.partition(" ")
-        return LineAnswer("accepted", "", reply or None, int(count))
+        return Answer("accepted", "", reply or None, transaction, int(count))
     if word == "refused":
         name, _, reply = rest.partition(" ")
-        return LineAnswer("refused", name, reply or None)
+        return Answer("refused", name, reply or None, transaction)
     if word in ("repeat", "reply"):
-        return LineAnswer(word, "", rest)
+        return Answer(word, "", rest, transaction)
     if line == "silent":
-        return LineAnswer("silent")
+        return Answer("silent", transaction=transaction)
     if word == "fault":
-        return LineAnswer("fault", rest)
+        return Answer("fault", rest, transaction=transaction)
     raise ProgramError(f"the program wrote {line[:80]!r}, which answers no line")
 
 
@@ -148,19 +140,22 @@ def read_wish(line: str) -> Wish:
     raise ProgramError(f"the program wrote {line[:80]!r}, which answers no line `asks`")
 
 
-@lru_cache(KEPT)
 def read_listed(line: str) -> Listed:
     """A line of a list of events."""
-    _, number, kind, at, evse, *_ = line.split(" ")
-    return Listed(int(number), kind, read_seconds(at), int(evse[5:]))
+    _, number, kind, at, evse, _, state = line.split(" ")
+    return Listed(int(number), kind, read_seconds(at), int(evse[5:]), state == "live")
 
 
-@lru_cache(KEPT)
-def read_placed(line: str) -> Placed:
-    """A line of a list of readings that has one."""
-    word, place, at, level, *_ = line.split(" ")
-    number, _, rank = place.partition(".")
-    return Placed(int(number), int(rank), Reading(read_seconds(at), int(level), REGISTERS[word]))
+def read_placed(lines: Iterable[str], is_export: bool) -> list[Placed]:
+    """The readings of a register that these lines of a list have."""
+    found = list[Placed]()
+    for line in lines:
+        if not line.startswith("part "):
+            _, place, at, level, *_ = line.split(" ", 4)
+            number, _, rank = place.partition(".")
+            reading = Reading(read_seconds(at), int(level), is_export)
+            found.append(Placed(int(number), int(rank), reading))
+    return found
 
 
 @lru_cache(KEPT)
@@ -176,6 +171,8 @@ class AnswerReader:
     def __init__(self, text: bytes) -> None:
         self.lines = text.decode("utf-8").split("\n")
         self.at = 0
+        # Whether some list has readings of the export register.
+        self.has_exports = b"\nexport " in text
 
     def read(self) -> str:
         """The next line. Raises ProgramError where there is none."""
@@ -274,18 +271,11 @@ class AnswerReader:
                 raise ProgramError(f"the program wrote {line[:80]!r} on a board")
         return board
 
-    def read_events(self) -> list[Listed]:
-        """The live events of the next list of events; none of an unknown transaction."""
-        return [read_listed(line) for line in self.read_list("events ") if line.endswith(" live")]
-
-    def read_readings(self) -> tuple[list[Placed], list[Placed]]:
-        """The readings of the next list of readings, of the import and of the export register."""
-        found = list[Placed](), list[Placed]()
-        lines = self.read_list("readings ")
-        next(lines, None)
-        for line in lines:
-            # What is of a register is a reading, and else a part of a period.
-            if not line.startswith("part "):
-                placed = read_placed(line)
-                found[placed.reading.is_export].append(placed)
-        return found
+    def read_lists(self) -> Lists:
+        """The next list of events and the next list of readings; empty ones of an unknown transaction."""
+        events = list(self.read_list("events "))[1:]
+        readings = list(self.read_list("readings "))[1:]
+        if not self.has_exports:
+            return Lists(events, readings, [])
+        first = next((n for n, line in enumerate(readings) if line.startswith("export ")), None)
+        return Lists(events, readings[:first], [] if first is None else readings[first:])

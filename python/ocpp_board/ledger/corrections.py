@@ -9,19 +9,13 @@ from ocpp_board.energies import kwh
 from ocpp_board.errors import InputError
 from ocpp_board.ledger.engine import settle
 from ocpp_board.ledger.program import Program
-from ocpp_board.ledger.rows import DELIVER, Rows, Work, work_out
+from ocpp_board.ledger.rows import Rows, Work, work_out
 from ocpp_board.messages.corrected import correct_reading
 from ocpp_board.messages.meter_values import JSON
-from ocpp_board.records import Asked, Deed, Line, Message
+from ocpp_board.records import DELIVER, Asked, Deed, Line, Message
 from ocpp_board.store.database import Database
 from ocpp_board.store.lines import read_lines
-from ocpp_board.store.plan import RULES_COLUMNS, Author, read_rules
-
-RULES = f"""
-select s.site, {', '.join(f'i.{name}' for name in RULES_COLUMNS.split(', '))}
-from session s join site i on i.site = s.site
-where s.station = :station and s.transaction_id = :transaction_id
-"""
+from ocpp_board.store.plan import Author, find_session_rules
 
 
 @dataclass(frozen=True, slots=True)
@@ -74,8 +68,8 @@ def prepare_session(
     author: Author,
 ) -> Prepared:
     """What corrections of a session would change. Raises InputError."""
-    row = store.fetch_one(RULES, station=station, transaction_id=transaction)
-    if row is None:
+    found = find_session_rules(store, station, transaction)
+    if found is None:
         raise InputError(
             f"{wanted[0].where}: the store has no transaction {transaction!r} of station {station!r}"
         )
@@ -90,7 +84,7 @@ def prepare_session(
         # It is as late as the message that it replaces.
         origin = f"corrected by {author.who}: {author.why}"
         asked.append(Message(station, texts[number].text, texts[number].received, origin))
-    work = Work(station, transaction, row.site, read_rules(row), list(stored), [], [], True)
+    work = Work(station, transaction, *found, list(stored), [], [], True)
     new = work._replace(new=[write_line(one) for one in asked])
     had, done = work_out(program, [work, new])
     assert had.rows is not None and done.rows is not None

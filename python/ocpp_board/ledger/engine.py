@@ -6,17 +6,26 @@ answer is given only after the commit. A failure gives none, and the same may co
 """
 
 import re
-from collections.abc import Callable, Iterable, Iterator, Sequence
+from collections.abc import Callable, Collection, Iterable, Iterator, Sequence
 from contextlib import AbstractContextManager, nullcontext
 from dataclasses import dataclass, field
 from datetime import datetime, timezone
-from functools import partial
+from functools import lru_cache, partial
 from operator import attrgetter
 from typing import Any, NamedTuple, Protocol
 
+from ocpp_board.errors import InputError
 from ocpp_board.ledger.answers import Wish
+from ocpp_board.ledger.course import Course
 from ocpp_board.ledger.program import find_program
-from ocpp_board.ledger.quotas import Asking, find_refused, write_reply
+from ocpp_board.ledger.quotas import (
+    FLOODS,
+    TOO_MANY_STRAYS,
+    Asking,
+    find_refused,
+    find_strays_above,
+    write_reply,
+)
 from ocpp_board.ledger.refusals import (
     CONFLICT,
     UNKNOWN_STATION,
@@ -32,22 +41,38 @@ from ocpp_board.ledger.refusals import (
     name_cause,
     read_levels,
 )
-from ocpp_board.ledger.rows import DELIVER, Done, Work, list_accepted, work_out
+from ocpp_board.ledger.rows import Done, Work, work_out
 from ocpp_board.limits import FIRST_MOMENT
-from ocpp_board.messages.texts import one_line
+from ocpp_board.messages.texts import is_unanswered, one_line
 from ocpp_board.messages.times import SECOND
-from ocpp_board.records import Answer, Asked, Deed, Line, Message, Rules, Untaken
+from ocpp_board.records import DELIVER, Answer, Asked, Deed, Line, Message, Rules, Untaken
 from ocpp_board.store import lines as store_lines
 from ocpp_board.store.database import Database, Row, choose
-from ocpp_board.store.lines import Held, Kept, Key, Warm, Writer
-from ocpp_board.store.plan import RULES_COLUMNS, Author, lock_sites, read_rules, write_site
+from ocpp_board.store.lines import Held, Kept, Key, Warm, Writer, Written
+from ocpp_board.store.plan import (
+    RULES_COLUMNS,
+    Author,
+    Planned,
+    find_planned,
+    own_rules,
+    read_rules,
+    share_sites,
+    write_power,
+    write_site,
+)
 
 # An origin that is a place in a file, such as `csms.log:17`.
 PLACE = re.compile(r"(?!.*://).*:[0-9]+")
+# The word of an operator who chooses the order of a transaction's readings.
+ORDER = "order"
+# What became of texts that were refused and taken after all.
+TAKEN, MENDED = "taken", "mended"
 # Texts that a process of a pool is asked at once, and the size of the works that it gets at once.
 TEXTS_AT_ONCE, BYTES_AT_ONCE = 2_000, 1_048_576
 # Transactions that are computed again at once where rules change.
 SESSIONS_AT_ONCE = 2_000
+# Moments that have their nanoseconds kept, since many messages come at one.
+KEPT_MOMENTS = 1_024
 EPOCH = datetime(1970, 1, 1, tzinfo=timezone.utc)
 
 
@@ -56,6 +81,14 @@ class Pool(Protocol):
 
     def imap(self, function: Any, pieces: Iterable[Any], /) -> Iterator[Any]:
         """What the function makes of each piece, in their order."""
+
+
+class Decided(NamedTuple):
+    """A text that waited for a decision, by its digest, and what became of it."""
+
+    station: str
+    digest: str
+    decision: str
 
 
 @dataclass(slots=True)
@@ -74,13 +107,15 @@ class Batch:
     others: list[Message] = field(default_factory=list)
     # Messages that were mended, each with what it asks for.
     mended: list[tuple[Message, Wish]] = field(default_factory=list)
+    # Texts that waited for a decision and were taken after all, and what became of them.
+    decided: list[Decided] = field(default_factory=list)
 
 
 # What will become of transactions: their works, and what is done of them.
 Foreseen = dict[Key, tuple[Work, Done]]
 
 
-class Piece(NamedTuple):
+class Share(NamedTuple):
     """The transactions that a process works on."""
 
     keys: list[Key]
@@ -143,6 +178,7 @@ def ask_piece(piece: tuple[list[str], list[int | None]]) -> list[Wish]:
     return find_program().ask(*piece)
 
 
+@lru_cache(KEPT_MOMENTS)
 def to_nanoseconds(at: datetime | None) -> int | None:
     """A moment in nanoseconds since 1970."""
     if at is None:
@@ -169,11 +205,18 @@ def sort_asked(batch: Batch) -> None:
 
 def sort_message(batch: Batch, place: int, one: Message, wish: Wish) -> None:
     """Sorts a message by what it asks for."""
+    if one.quota and wish.outcome in ("event", "reply"):
+        batch.replied[place] = one
+        refuse_message(batch, place, one.quota)
+        return
     if wish.outcome == "event":
         batch.sessions.setdefault((one.station, wish.text), []).append(place)
         return
     batch.replied[place] = one
     if wish.outcome == "silent":
+        batch.answers[place] = Answer("silent")
+        return
+    if is_unanswered(one.text):
         batch.answers[place] = Answer("silent")
         return
     cause = wish.text if wish.outcome == "fault" else name_cause(wish.text)
@@ -217,60 +260,84 @@ def write_batch(
     store: Database, batch: Batch, pool: Pool | None, warm: Warm | None, foreseen: Foreseen
 ) -> dict[Key, Kept]:
     """Writes what a batch changes, within a database transaction, and answers the rest of it."""
-    sites = hold_sites(store, batch)
+    planned = hold_sites(store, batch, warm)
+    sites = planned.sites
     leave_strays(batch, sites)
-    refuse_by_quotas(store, batch, sites)
+    refuse_strays(store, batch)
+    refuse_by_quotas(store, batch, planned)
     held = store_lines.hold_sessions(
         store, {key: sites[key[0]] for key in batch.sessions if key[0] in sites}, warm
     )
     deeds = find_done(store, batch)
     batch.answers |= deeds
-    works = make_works(store, batch, held, deeds)
-    writer = Writer(store, warm is not None)
+    works = make_works(store, batch, held, deeds, planned)
+    writer, kept = Writer(store), dict[Key, Kept]()
     for key, work, done in work_on(works, pool, foreseen):
-        take_answers(writer, batch, work, done, held[key], deeds)
+        take_answers(store, batch, work, done, held[key], deeds)
+        if now := write_rows(writer, work, held[key], done):
+            kept[key] = now
     writer.write()
     write_refusals(store, batch)
+    write_decided(store, batch)
     write_strays(store, batch)
     write_mended(store, batch)
     write_levels(store, batch, sites)
-    return writer.kept
+    return kept
 
 
 def make_works(
-    store: Database, batch: Batch, held: dict[Key, Held], deeds: dict[int, Answer]
+    store: Database,
+    batch: Batch,
+    held: dict[Key, Held],
+    deeds: dict[int, Answer],
+    planned: Planned,
 ) -> dict[Key, Work]:
     """The works of transactions that are held."""
-    rules = find_all_rules(store, {one.site for one in held.values()})
+    # A station that moved leaves the transactions that it began where they are.
+    others = {one.site for one in held.values()} - planned.rules.keys()
+    rules = planned.rules | find_all_rules(store, others)
     works = dict[Key, Work]()
     for key, one in held.items():
         new = list_new(batch, batch.sessions[key], deeds)
-        works[key] = Work(*key, one.site, rules[one.site], one.lines, new, list_conflicts(key, one))
+        own = own_rules(rules[one.site], one.own_order, planned.powers.get(key[0]))
+        course: Course | None = one.kept.course if one.kept else None
+        if course is not None and course.rules != own:
+            # All rows were computed again meanwhile.
+            course, held[key] = None, one._replace(kept=None)
+        conflicts = list_conflicts(key, one)
+        works[key] = Work(*key, one.site, own, one.lines, new, conflicts, course=course)
     return works
+
+
+def find_powers(store: Database, keys: Iterable[Key]) -> dict[str, int]:
+    """The powers of those of the stations of transactions that have one of their own."""
+    rows = store_lines.find_stations(store, sorted({key[0] for key in keys}))
+    return {station: row.most_kw for station, row in rows.items() if row.most_kw}
 
 
 def foresee(store: Database, batch: Batch) -> Foreseen:
     """What will become of a batch's transactions, if nobody changes them meanwhile."""
     with store.snapshot():
-        sites = store_lines.find_sites(store, sorted({key[0] for key in batch.sessions}))
+        planned = find_planned(store, sorted({key[0] for key in batch.sessions}))
+        sites = planned.sites
         known = {key: sites[key[0]] for key in batch.sessions if key[0] in sites}
-        works = make_works(
-            store, batch, store_lines.hold_sessions(store, known), find_done(store, batch)
-        )
+        held = store_lines.hold_sessions(store, known)
+        works = make_works(store, batch, held, find_done(store, batch), planned)
     return {key: (work, done) for key, work, done in work_on(works, None)}
 
 
-def hold_sites(store: Database, batch: Batch) -> dict[str, str]:
-    """The sites of the batch's stations; their plan does not change up to the end of the database transaction."""
+def hold_sites(store: Database, batch: Batch, warm: Warm | None) -> Planned:
+    """What the plan has of the batch's stations; it does not change up to the end of the database transaction."""
     stations = sorted({key[0] for key in batch.sessions} | {one.station for one in batch.others})
+    if store.kind != "postgresql":
+        return find_planned(store, stations)
+    # Transactions that a station began at another site have that one's rules.
+    others = store_lines.find_session_sites(store, list(batch.sessions), warm)
     while True:
-        sites = store_lines.find_sites(store, stations)
-        if store.kind != "postgresql":
-            return sites
-        known = store_lines.find_session_sites(store, list(batch.sessions))
-        lock_sites(store, [*sites.values(), *known.values()], False)
-        if store_lines.find_sites(store, stations) == sites:
-            return sites
+        shared = share_sites(store, stations, others)
+        planned = find_planned(store, stations)
+        if shared.issuperset(planned.sites.values()):
+            return planned
 
 
 def leave_strays(batch: Batch, sites: dict[str, str]) -> None:
@@ -288,8 +355,24 @@ def leave_strays(batch: Batch, sites: dict[str, str]) -> None:
             batch.strays.append((one, Wish("reply")))
 
 
-def refuse_by_quotas(store: Database, batch: Batch, sites: dict[str, str]) -> None:
+def refuse_strays(store: Database, batch: Batch) -> None:
+    """Answers messages of stations that no site has where as many of them are kept as there may be."""
+    texts = [(one.station, digest_stray(one.text)) for one, _ in batch.strays]
+    above = find_strays_above(store, texts) if texts else set()
+    if not above:
+        return
+    places = {id(one): place for place, one in enumerate(batch.asked)}
+    for one, key in zip([one for one, _ in batch.strays], texts):
+        if key in above:
+            refuse_message(batch, places[id(one)], TOO_MANY_STRAYS)
+    batch.strays = [one for one, key in zip(batch.strays, texts) if key not in above]
+
+
+def refuse_by_quotas(store: Database, batch: Batch, planned: Planned) -> None:
     """Answers messages that are above a quota of their site, which change nothing."""
+    sites, quotas = planned.sites, {site: one for site, one in planned.quotas.items() if any(one)}
+    if not quotas:
+        return
     asking = [
         Asking(place, one, key)
         for key, places in batch.sessions.items()
@@ -303,7 +386,7 @@ def refuse_by_quotas(store: Database, batch: Batch, sites: dict[str, str]) -> No
         if id(one) in values and isinstance(one, Message) and one.station in sites
     ]
     asking.sort(key=attrgetter("place"))
-    for place, name in find_refused(store, asking, sites).items():
+    for place, name in find_refused(store, asking, sites, quotas).items():
         one = batch.asked[place]
         assert isinstance(one, Message)
         key = (one.station, batch.wishes[place].text)
@@ -313,13 +396,22 @@ def refuse_by_quotas(store: Database, batch: Batch, sites: dict[str, str]) -> No
                 del batch.sessions[key]
         else:
             batch.others = [other for other in batch.others if other is not one]
-        refusal = describe_message(one.text, name, one.received)
-        batch.refusals.append((one, refusal, refusal.sent_id.lower()))
-        batch.answers[place] = Answer("refused", name, write_reply(one.text, name))
+        refuse_message(batch, place, name)
 
 
-def find_all_rules(store: Database, sites: Iterable[str]) -> dict[str, Rules]:
+def refuse_message(batch: Batch, place: int, name: str) -> None:
+    """Answers a message that is above the quota of this name."""
+    one = batch.asked[place]
+    assert isinstance(one, Message)
+    refusal = describe_message(one.text, name, one.received)
+    batch.refusals.append((one, refusal, refusal.sent_id.lower()))
+    batch.answers[place] = Answer("refused", name, write_reply(one.text, name))
+
+
+def find_all_rules(store: Database, sites: Collection[str]) -> dict[str, Rules]:
     """The rules of sites."""
+    if not sites:
+        return {}
     asked = f"select site, {RULES_COLUMNS} from site where site"
     if store.kind == "postgresql":
         rows = store.fetch(f"{asked} = any(:sites)", sites=sorted(sites))
@@ -391,21 +483,21 @@ def work_on(
         for (key, work), done in zip(some.items(), work_out(find_program(), some.values())):
             yield key, work, done
         return
-    pieces = list(part_pieces(some))
+    pieces = list(part_works(some))
     for piece, found in zip(pieces, pool.imap(work_piece, (piece.works for piece in pieces))):
         yield from zip(piece.keys, piece.works, found)
 
 
-def part_pieces(works: dict[Key, Work]) -> Iterator[Piece]:
+def part_works(works: dict[Key, Work]) -> Iterator[Share]:
     """Works in pieces for the processes of a pool."""
-    piece, size = Piece([], []), 0
+    piece, size = Share([], []), 0
     for key, work in works.items():
         piece.keys.append(key)
         piece.works.append(work)
         size += sum(len(line.text) for line in (*work.stored, *work.new))
         if size > BYTES_AT_ONCE:
             yield piece
-            piece, size = Piece([], []), 0
+            piece, size = Share([], []), 0
     if piece.keys:
         yield piece
 
@@ -416,45 +508,71 @@ def work_piece(works: list[Work]) -> list[Done]:
 
 
 def take_answers(
-    writer: Writer, batch: Batch, work: Work, done: Done, held: Held, deeds: dict[int, Answer]
+    store: Database, batch: Batch, work: Work, done: Done, held: Held, deeds: dict[int, Answer]
 ) -> None:
-    """Notes the answers to a transaction's lines, and has its lines and rows written."""
-    key, store, taken = (work.station, work.transaction), writer.store, set[int]()
-    places = [place for place in batch.sessions[key] if place not in deeds]
-    for place, (outcome, name, reply, change) in zip(places, done.answers):
-        batch.answers[place] = Answer(outcome, name, reply, key[1], change)
+    """Notes the answers to a transaction's lines."""
+    key = work.station, work.transaction
+    places = batch.sessions[key]
+    if deeds:
+        places = [place for place in places if place not in deeds]
+    batch.answers.update(zip(places, done.answers))
+    for place, answer in zip(places, done.answers):
         one = batch.asked[place]
-        if isinstance(one, Message):
-            if outcome in ("accepted", "repeat"):
-                taken.add(batch.wishes[place].number)
-            elif outcome in ("refused", "fault"):
-                refusal = describe_message(one.text, name, one.received)
-                batch.refusals.append((one, refusal, key[1]))
-        elif isinstance(one, Deed):
-            write_deed(store, one, batch.answers[place])
-    write_rows(writer, work, held, done)
-    untaken = [row for row in held.refusals if row.cause == UNTAKEN and row.number in taken]
+        if isinstance(one, Deed):
+            write_deed(store, one, answer)
+        elif isinstance(one, Message) and answer.outcome in ("refused", "fault"):
+            refusal = describe_message(one.text, answer.name, one.received)
+            batch.refusals.append((one, refusal, key[1]))
+    if held.refusals or batch.mended:
+        taken = [
+            place
+            for place, answer in zip(places, done.answers)
+            if answer.outcome in ("accepted", "repeat")
+        ]
+        note_decided(batch, held, taken)
+        forget_untaken(store, batch, held, taken, key[0])
+
+
+def note_decided(batch: Batch, held: Held, taken: Iterable[int]) -> None:
+    """Notes texts that waited for a decision and are taken by now."""
+    waiting = {row.digest for row in held.refusals}
+    for place in taken:
+        one = batch.asked[place]
+        if not isinstance(one, Message):
+            continue
+        if one.came:
+            digest = digest_text(keep_text(one.came))
+            batch.decided.append(Decided(one.station, digest, MENDED))
+        elif waiting and (digest := digest_text(keep_text(one.text))) in waiting:
+            batch.decided.append(Decided(one.station, digest, TAKEN))
+
+
+def forget_untaken(
+    store: Database, batch: Batch, held: Held, taken: Iterable[int], station: str
+) -> None:
+    """Removes what no source could take of events that came by now."""
+    numbers = {batch.wishes[place].number for place in taken if place in batch.wishes}
+    untaken = [row for row in held.refusals if row.cause == UNTAKEN and row.number in numbers]
     if untaken:
         store.execute_each(
             "delete from refusal where station = :station and cause = :cause and digest = :digest",
-            [{"station": key[0], "cause": row.cause, "digest": row.digest} for row in untaken],
+            [{"station": station, "cause": row.cause, "digest": row.digest} for row in untaken],
         )
 
 
-def write_rows(writer: Writer, work: Work, held: Held, done: Done) -> None:
-    """Has the accepted lines of a transaction and its rows written."""
+def write_rows(writer: Writer, work: Work, held: Held, done: Done) -> Kept | None:
+    """Has the accepted lines of a transaction and its rows written, and gives what is to be kept of it."""
     key = work.station, work.transaction
     if done.rows is None:
         if not held.lines:
             writer.drop_empty(key)
-        return
-    parts = [one._asdict() for one in done.rows.parts]
-    findings = [
-        {"kind": one.kind.label, "times": one.times, "first_at": one.first, "detail": one.detail}
-        for one in done.rows.findings
-    ]
-    session = done.rows.session._asdict()
-    writer.add(key, held, list_accepted(work, done.answers), session, parts, findings)
+        return held.kept
+    findings = [(one.kind.label, one.times, one.first, one.detail) for one in done.rows.findings]
+    session, parts, _ = done.rows
+    size = done.course.measure() if done.course else 0
+    return writer.add(
+        key, Written(held, done.accepted, session, parts, findings, done.course, size)
+    )
 
 
 def write_deed(store: Database, one: Deed, answer: Answer) -> None:
@@ -480,7 +598,7 @@ def write_refusals(store: Database, batch: Batch) -> None:
     kept, rows = dict[tuple[str, str], set[str]](), list[dict[str, Any]]()
     for one, refusal, transaction in batch.refusals:
         kind = one.station, refusal.cause
-        if kind not in kept:
+        if refusal.cause in FLOODS and kind not in kept:
             kept[kind] = store_lines.find_digests(store, *kind)
         row = {
             "station": one.station,
@@ -497,13 +615,29 @@ def write_refusals(store: Database, batch: Batch) -> None:
             "origins": name_place(one.origin),
             "at": refusal.at,
         }
-        if len(kept[kind]) >= store_lines.MOST_TEXTS and refusal.digest not in kept[kind]:
+        own = kept.get(kind, set())
+        if len(own) >= store_lines.MOST_TEXTS and refusal.digest not in own:
             row |= {"digest": store_lines.MANY, "transaction": "", "number": None, "sent_id": ""}
             row |= {"sent_number": "", "what": store_lines.ONE_OF_MANY}
-        kept[kind].add(str(row["digest"]))
+        own.add(str(row["digest"]))
         rows.append(row)
     if rows:
         store.execute_each(choose(store_lines.ADD_REFUSAL, store.kind), rows)
+
+
+def write_decided(store: Database, batch: Batch) -> None:
+    """Notes that texts which waited for a decision were taken."""
+    now = datetime.now(timezone.utc)
+    if batch.decided:
+        store.execute_each(
+            store_lines.DECIDE,
+            [one._asdict() | {"at": now, "who": "", "why": ""} for one in batch.decided],
+        )
+
+
+def digest_stray(text: str) -> str:
+    """By what a text of a station that no site has is known again."""
+    return Refusal(UNKNOWN_STATION, "", "", "", "", text, None).digest
 
 
 def write_strays(store: Database, batch: Batch) -> None:
@@ -511,11 +645,10 @@ def write_strays(store: Database, batch: Batch) -> None:
     rows = list[dict[str, Any]]()
     for one, wish in batch.strays:
         named = find_names(one.text)
-        refusal = Refusal(UNKNOWN_STATION, "", "", named.sent_id, "", one.text, None)
         rows.append(
             {
                 "station": one.station,
-                "digest": refusal.digest,
+                "digest": digest_stray(one.text),
                 "site": one.site or "",
                 "transaction": wish.text,
                 "number": wish.number if wish.outcome == "event" else None,
@@ -575,6 +708,21 @@ def change_site(
         return compute_again(store, site, rules)
 
 
+def change_power(
+    store: Database, station: str, most_kw: int, author: Author, where: str = "plan"
+) -> None:
+    """Says the greatest power of a station's EVSEs in kW, and computes the rows of its transactions again. Raises
+    InputError."""
+    with store.transaction():
+        if write_power(store, station, most_kw, author, where):
+            rows = store.fetch(
+                "select transaction_id, site from session where station = :station", station=station
+            )
+            sites = {(station, row.transaction_id): row.site for row in rows}
+            for start in range(0, len(rows), SESSIONS_AT_ONCE):
+                renew_sessions(store, dict([*sites.items()][start : start + SESSIONS_AT_ONCE]))
+
+
 def compute_again(store: Database, site: str, rules: Rules) -> int:
     """Computes the rows of a site's transactions by these rules, within a database transaction that holds its plan."""
     count, after = 0, ("", "")
@@ -587,21 +735,52 @@ def compute_again(store: Database, site: str, rules: Rules) -> int:
         if not rows:
             return count
         keys = [(row.station, row.transaction_id) for row in rows]
-        held = store_lines.hold_sessions(store, dict.fromkeys(keys, site))
-        no_lines = list[Line]()
-        works = {
-            key: Work(
-                *(*key, site, rules, one.lines, no_lines),
-                list_conflicts(key, one),
-                True,
-            )
-            for key, one in held.items()
-        }
-        writer = Writer(store)
-        for key, work, done in work_on(works, None):
-            write_rows(writer, work, held[key], done)
-        writer.write()
+        renew_sessions(store, dict.fromkeys(keys, site), {site: rules})
         count, after = count + len(keys), keys[-1]
+
+
+def renew_sessions(
+    store: Database, sites: dict[Key, str], rules: dict[str, Rules] | None = None
+) -> None:
+    """Computes the rows of transactions again, within a database transaction. `sites`: those of the transactions."""
+    rules = rules or find_all_rules(store, set(sites.values()))
+    held = store_lines.hold_sessions(store, sites)
+    powers = find_powers(store, held)
+    works = {}
+    for key, one in held.items():
+        own = own_rules(rules[one.site], one.own_order, powers.get(key[0]))
+        works[key] = Work(*key, one.site, own, one.lines, [], list_conflicts(key, one), True)
+    writer = Writer(store)
+    for key, work, done in work_on(works, None):
+        write_rows(writer, work, held[key], done)
+    writer.write()
+
+
+def order_session(
+    store: Database, station: str, transaction: str, order: str, author: Author
+) -> None:
+    """Has a transaction's readings taken in an order of its own, and computes its rows again. Raises InputError where
+    there is no such transaction."""
+    key = station, transaction.lower()
+    with store.transaction():
+        row = store.fetch_one(
+            "select site from session where station = :station and transaction_id = :transaction",
+            station=station,
+            transaction=key[1],
+        )
+        if row is None:
+            raise InputError(f"the store has no transaction {transaction!r} of station {station!r}")
+        share_sites(store, [], [row.site])
+        store.execute(
+            "update session set own_order = :order where station = :station and transaction_id = :transaction",
+            order=order,
+            station=station,
+            transaction=key[1],
+        )
+        renew_sessions(store, {key: row.site})
+        now = datetime.now(timezone.utc)
+        deed = Deed(ORDER, *key, 0, author.who, author.why, now, f"operator {author.who}")
+        write_deed(store, deed, Answer(f"by {order}", "", None, key[1]))
 
 
 def take_strays(

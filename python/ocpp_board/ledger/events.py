@@ -1,140 +1,183 @@
 """What only the messages of a transaction have, joined with the lists by which the program says what counts."""
 
+import re
 from collections.abc import Iterable, Sequence
 from dataclasses import dataclass, field
 from datetime import datetime
 from functools import lru_cache
-from typing import NamedTuple
 
-from ocpp_board.ledger.answers import Listed, Lists, Placed
+from ocpp_board.ledger.answers import Listed, Lists, Placed, read_listed, read_placed
 from ocpp_board.messages.meter_values import JSON
-from ocpp_board.messages.transactions import Event, Reading, event_of
-from ocpp_board.records import Line
+from ocpp_board.messages.times import seconds_of
+from ocpp_board.messages.transactions import (
+    NOTHING_BESIDE,
+    Beside,
+    Event,
+    Reading,
+    is_far,
+    read_beside,
+)
+from ocpp_board.records import DELIVER, Line
 
-NO_EVENT = Event(0, "", None, (), (), False, "")
-# The readings of the import and of the export register of an event.
-Sides = tuple[tuple[Reading, ...], tuple[Reading, ...]]
-# Texts that have their events kept, since a transaction that goes on is read again with each of its lines.
-KEPT_EVENTS = 50_000
+# The members of messages of which the program's lists say nothing.
+BESIDE = "measurand phase location signedMeterValue stoppedReason idToken remoteStartId offline"
+BESIDE_WORDS = tuple(f'"{name}"' for name in BESIDE.split())
+# A unit that stands beside its value.
+UNIT_WORD, UNIT_HOLDER = '"unit"', '"unitOfMeasure"'
+# The number of an event, in a text that has one member of this name.
+NUMBER_WORD = '"seqNo"'
+NUMBER = re.compile(r'"seqNo"[ \t\r\n]*:[ \t\r\n]*([0-9]+)(?![0-9.eE])')
+# Conflicting messages that have their events kept, since they are read again with each line of their transaction.
+KEPT_CONFLICTS = 5_000
+# A counted reading with its event.
+Counted = tuple[Event, Reading]
 
 
-@dataclass
+@dataclass(slots=True)
 class History:
-    """What the accepted events of a transaction say by their numbers, voided ones included, the events that conflicted
-    with them, and what operators voided: by the numbers of events, who and why."""
+    """What the accepted lines of a transaction have: by the numbers of events their lines, voided ones included, and
+    what operators voided, who and why."""
 
-    told: "dict[int, Told]" = field(default_factory=dict)
-    conflicts: list[Event] = field(default_factory=list)
+    lines: dict[int, Line] = field(default_factory=dict)
     voids: dict[int, tuple[str, str]] = field(default_factory=dict)
     # Its id as it was sent first: two that differ only in letters' sizes are one.
     sent: str = ""
     received_until: datetime | None = None
 
+    def take(self, lines: Iterable[Line]) -> None:
+        """Takes further lines."""
+        until = self.received_until
+        for line in lines:
+            received = line.received
+            if received and (until is None or received > until):
+                until = received
+            if not line.text.startswith(DELIVER):
+                self.take_deed(line)
+                continue
+            if not self.sent:
+                self.sent = JSON.decode(cut_message(line.text))[3]["transactionInfo"][
+                    "transactionId"
+                ]
+            self.lines[read_number(line.text)] = line
+        self.received_until = until
+
+    def take_deed(self, line: Line) -> None:
+        """Takes an operator's line."""
+        word, _, rest = line.text.partition(" ")
+        number = int(rest.rpartition(" ")[2])
+        self.voids.pop(number, None)
+        if word == "void":
+            self.voids[number] = line.who, line.why
+        elif word == "erase":
+            self.lines.pop(number, None)
+
+
+def cut_message(text: str) -> str:
+    """The message of a line `deliver`."""
+    return text.split(" ", 2)[2]
+
+
+def read_number(text: str) -> int:
+    """The number of the event of a line `deliver` that the program took."""
+    if "\\" not in text and text.count(NUMBER_WORD) == 1 and (found := NUMBER.search(text)):
+        return int(found[1])
+    return int(JSON.decode(cut_message(text))[3]["seqNo"])
+
+
+def find_beside(text: str) -> Beside:
+    """What the message of a line `deliver` has beside what the program's lists say of it."""
+    if "\\" not in text:
+        for word in BESIDE_WORDS:
+            if word in text:
+                break
+        else:
+            if UNIT_WORD not in text or UNIT_HOLDER in text:
+                return NOTHING_BESIDE
+    return read_beside(JSON.decode(cut_message(text))[3])
+
+
+@lru_cache(KEPT_CONFLICTS)
+def read_conflict(text: str) -> Event:
+    """The event of a line `deliver` that conflicted with another one: its number, kind and time."""
+    payload = JSON.decode(cut_message(text))[3]
+    at = seconds_of(payload["timestamp"])
+    return Event(int(payload["seqNo"]), payload["eventType"], at, (), (), False, "")
+
 
 class LiveEvents(list[Event]):
-    """The live events of a transaction by their numbers, and their readings in the site's order."""
+    """The live events of a transaction by their numbers, and its counted readings in the order of its site: of the
+    import and of the export register. `voided`: the kinds of its voided events by their numbers."""
 
-    def __init__(
-        self,
-        events: Iterable[Event] = (),
-        imported: Iterable[tuple[Event, Reading]] = (),
-        exported: Iterable[tuple[Event, Reading]] = (),
-    ) -> None:
-        super().__init__(events)
-        self.orders = list(imported), list(exported)
+    def __init__(self) -> None:
+        super().__init__()
+        self.orders: tuple[list[Counted], list[Counted]] = [], []
+        self.voided = dict[int, str]()
+        self.first_number: int | None = None
 
-    def readings(self, is_export: bool) -> list[tuple[Event, Reading]]:
+    def readings(self, is_export: bool) -> list[Counted]:
         """The counted readings of a register, each with its event, in the order in which the ledger takes them."""
         return self.orders[is_export]
 
+    def list_readings(self) -> list[Reading]:
+        """The counted readings of the import register, then those of the export register."""
+        return [one for found in self.orders for _, one in found]
 
-class Told(NamedTuple):
-    """What a message says: its event, the readings of both registers, and the transaction's id as it was sent."""
+    def has_readings(self) -> bool:
+        """Whether a reading counts."""
+        return any(self.orders)
 
-    event: Event
-    sides: Sides
-    sent: str
-
-
-@lru_cache(KEPT_EVENTS)
-def read_event(text: str, received: datetime | None, line: int) -> Told:
-    """What a line `deliver` says whose message the program took."""
-    payload = JSON.decode(text.split(" ", 2)[2])[3]
-    event = event_of(payload, received, line)
-    return Told(event, part_readings(event), payload["transactionInfo"]["transactionId"])
-
-
-def read_history(lines: Sequence[Line], conflicts: Sequence[str]) -> History:
-    """What the accepted lines of a transaction have. `conflicts`: lines that conflicted with them."""
-    history = History()
-    events, until = history.told, None
-    for line in lines:
-        if line.received and (until is None or line.received > until):
-            until = line.received
-        if line.text.startswith("deliver "):
-            told = read_event(line.text, line.received, line.number)
-            events[told.event.number] = told
-            continue
-        word, _, rest = line.text.partition(" ")
-        number = int(rest.rpartition(" ")[2])
-        history.voids.pop(number, None)
-        if word == "void":
-            history.voids[number] = line.who, line.why
-        elif word == "erase":
-            events.pop(number, None)
-    history.received_until = until
-    first = next((line for line in lines if line.text.startswith("deliver ")), None)
-    if first is not None:
-        history.sent = read_event(first.text, first.received, first.number).sent
-    history.conflicts = [read_event(text, None, 0).event for text in conflicts]
-    return history
+    def take(self, lists: Lists, history: History) -> None:
+        """Takes what these lists have, which is behind all that was taken before."""
+        placed = read_placed(lists.imported, False)
+        exported = read_placed(lists.exported, True)
+        own = group_readings([*placed, *exported])
+        events = dict[int, Event]()
+        for line in lists.events:
+            listed = read_listed(line)
+            if self.first_number is None:
+                self.first_number = listed.number
+            if listed.is_live:
+                event = make_event(
+                    listed, own.get(listed.number, ()), history.lines.get(listed.number)
+                )
+                events[listed.number] = event
+            else:
+                self.voided[listed.number] = listed.kind
+        self += events.values()
+        self.orders[0].extend([(events[one.number], one.reading) for one in placed])
+        self.orders[1].extend([(events[one.number], one.reading) for one in exported])
 
 
-def join_lists(lists: Lists, history: History) -> LiveEvents:
-    """The live events by the program's lists, each with what its message has beside what the lists say."""
-    own = group_readings(lists.readings[0]), group_readings(lists.readings[1])
-    events = dict[int, Event]()
-    for listed in lists.events:
-        number = listed.number
-        sides = own[0].get(number, ()), own[1].get(number, ())
-        told = history.told.get(number)
-        if told is not None and told.sides == sides and is_listed(told.event, listed):
-            events[number] = told.event
-        else:
-            event = told.event if told else NO_EVENT
-            events[number] = event._replace(**listed._asdict(), readings=sides[0] + sides[1])
-    orders = [
-        [(events[one.number], one.reading) for one in readings] for readings in lists.readings
-    ]
-    return LiveEvents(events.values(), orders[0], orders[1])
-
-
-def is_listed(event: Event, listed: Listed) -> bool:
-    """Whether an event is what the program lists."""
-    return (event.at, event.kind, event.evse) == (listed.at, listed.kind, listed.evse)
+def make_event(listed: Listed, readings: tuple[Reading, ...], line: Line | None) -> Event:
+    """A live event by the program's list, with what its message has beside."""
+    beside = find_beside(line.text) if line else NOTHING_BESIDE
+    receipt = line.received.timestamp() if line and line.received else None
+    return Event(
+        listed.number,
+        listed.kind,
+        listed.at,
+        readings,
+        beside.others,
+        is_far(listed.at, receipt, beside.is_offline),
+        beside.reason,
+        listed.evse,
+        beside.unlike,
+        beside.details,
+        beside.measured,
+    )
 
 
 def group_readings(readings: Sequence[Placed]) -> dict[int, tuple[Reading, ...]]:
-    """The readings of each event by its number, by their places."""
-    found = dict[int, tuple[Reading, ...]]()
-    several = dict[int, list[Placed]]()
+    """The readings of each event by its number: of the import register by their places, then of the export register."""
+    found = dict[int, list[Placed]]()
     for one in readings:
-        number = one.number
-        if number in several:
-            several[number].append(one)
-        elif one.place or number in found:
-            several[number] = [Placed(number, 0, had) for had in found.pop(number, ())]
-            several[number].append(one)
-        else:
-            found[number] = (one.reading,)
-    for number, some in several.items():
-        found[number] = tuple(one.reading for one in sorted(some))
-    return found
+        found.setdefault(one.number, []).append(one)
+    return {
+        number: tuple([one.reading for one in (sorted(own, key=name_place) if own[1:] else own)])
+        for number, own in found.items()
+    }
 
 
-def part_readings(event: Event) -> Sides:
-    """The readings of both registers."""
-    if any(one.is_export for one in event.readings):
-        imported = tuple(one for one in event.readings if not one.is_export)
-        return imported, tuple(one for one in event.readings if one.is_export)
-    return event.readings, ()
+def name_place(one: Placed) -> tuple[bool, int]:
+    """The place of a reading among those of its event."""
+    return one.reading.is_export, one.place

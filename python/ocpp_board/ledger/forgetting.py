@@ -15,8 +15,8 @@ from ocpp_board.ledger.program import Program
 from ocpp_board.ledger.rows import Rows, Work, work_out
 from ocpp_board.messages.tokens import SIGNED, TOKENS, empty_line, empty_tokens
 from ocpp_board.records import Line
-from ocpp_board.store.database import Database
-from ocpp_board.store.plan import RULES_COLUMNS, read_rules
+from ocpp_board.store.database import Database, count_hours
+from ocpp_board.store.plan import find_session_rules
 
 # A moment after all that a store has.
 NEVER = datetime(9999, 1, 1, tzinfo=timezone.utc)
@@ -30,10 +30,8 @@ from line l join session s on s.station = l.station and s.transaction_id = l.tra
 where coalesce(l.received, s.last_at, s.changed_at) < :before and {MAY_HAVE.format('l.line')}
 order by l.station, l.transaction_id
 """
-SESSION = f"""
-select s.site, s.last_at, s.changed_at, {', '.join(f'i.{name}' for name in RULES_COLUMNS.split(', '))}
-from session s join site i on i.site = s.site
-where s.station = :station and s.transaction_id = :transaction_id
+SESSION = """
+select last_at, changed_at from session where station = :station and transaction_id = :transaction_id
 """
 OWN_LINES = """
 select number, received, line, who, why, origin from line
@@ -49,7 +47,8 @@ where station = :station and transaction_id = :transaction_id and number = :numb
 """
 # The moment of change has who keeps the lines of a session read them again, and its pages written.
 WRITE_SESSION = """
-update session set token = :token, token_type = :token_type, signed = :signed, changed_at = :changed_at
+update session set token = :token, token_type = :token_type, signed = :signed, changed_at = :changed_at,
+    changed_hour = :changed_hour
 where station = :station and transaction_id = :transaction_id
 """
 REFUSALS = f"""
@@ -146,8 +145,8 @@ def empty_session(
     key = {"station": station, "transaction_id": transaction}
     if store.kind == "postgresql":
         store.fetch(LOCK, **key)
-    row = store.fetch_one(SESSION, **key)
-    if row is None:
+    row, rules = store.fetch_one(SESSION, **key), find_session_rules(store, station, transaction)
+    if row is None or rules is None:
         return None
     had, new = list[Line](), list[Line]()
     for one in store.fetch(OWN_LINES, **key):
@@ -157,7 +156,7 @@ def empty_session(
             text = empty_line(one.line, wanted.token, wanted.members)
             line = Line(one.number, text, one.received, one.who, one.why, one.origin)
         new.append(line)
-    return Emptied(Work(station, transaction, row.site, read_rules(row), had, [], [], True), new)
+    return Emptied(Work(station, transaction, *rules, had, [], [], True), new)
 
 
 def write_sessions(
@@ -177,14 +176,15 @@ def write_sessions(
         store.execute_each(
             WRITE_LINE, [key | {"number": line.number, "line": line.text} for line in one.changed]
         )
-        own = rows.session
+        own, now = rows.session, datetime.now(timezone.utc)
         store.execute(
             WRITE_SESSION,
             **key,
             token=own.token,
             token_type=own.token_type,
             signed=own.signed,
-            changed_at=datetime.now(timezone.utc),
+            changed_at=now,
+            changed_hour=count_hours(now),
         )
         found.lines += len(one.changed)
         found.sessions += 1

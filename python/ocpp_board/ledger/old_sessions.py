@@ -13,7 +13,7 @@ from datetime import datetime, timezone
 from pathlib import Path
 
 from ocpp_board.errors import UsageError
-from ocpp_board.ledger.scripts import part_scripts, write_line
+from ocpp_board.ledger.scripts import OWN_ORDERS, part_scripts, write_line
 from ocpp_board.records import Rules
 from ocpp_board.store.database import Database, Row
 from ocpp_board.store.plan import find_rules
@@ -23,7 +23,7 @@ AT_ONCE = 100
 SITES = "select site from site order by site"
 # A closing settled them, no line came since, and all that they name is before a moment.
 OLD = """
-select s.station, s.transaction_id, s.began, s.lines
+select s.station, s.transaction_id, s.began, s.lines, s.own_order
 from session s join session_state t on t.station = s.station and t.transaction_id = s.transaction_id
 where s.site = :site and t.state <> 'provisional' and s.last_at < :before
     and (s.received_until is null or s.received_until < :before)
@@ -98,7 +98,13 @@ def write_file(store: Database, site: str, sessions: Sequence[Row], path: Path) 
     try:
         with open(fresh, "wb") as file:
             with zipfile.ZipFile(file, "w", zipfile.ZIP_DEFLATED) as packed:
-                scripts = part_scripts(read_lines(store, sessions), write_line)
+                scripts = (
+                    script
+                    for order in OWN_ORDERS
+                    for script in part_scripts(
+                        read_lines(store, sessions, order), write_line, order
+                    )
+                )
                 for number, script in enumerate(scripts, 1):
                     packed.writestr(f"{number}.script", script.write(site, rules))
                 for table in TABLES:
@@ -115,10 +121,11 @@ def write_file(store: Database, site: str, sessions: Sequence[Row], path: Path) 
         os.close(holder)
 
 
-def read_lines(store: Database, sessions: Sequence[Row]) -> Iterator[Row]:
-    """The lines of sessions."""
+def read_lines(store: Database, sessions: Sequence[Row], order: str) -> Iterator[Row]:
+    """The lines of those sessions that have this order of their own."""
     for one in sessions:
-        yield from store.fetch(OWN_LINES, **name_key(one))
+        if one.own_order == order:
+            yield from store.fetch(OWN_LINES, **name_key(one))
 
 
 def name_key(one: Row) -> dict[str, str]:

@@ -1,11 +1,11 @@
 """How the figures of settlement periods were come by: measured at both ends of a period, or shared by time."""
 
 from bisect import bisect_left
-from collections.abc import Iterator, Sequence
+from collections.abc import Collection, Iterable, Iterator, Sequence
 from itertools import pairwise
 from typing import NamedTuple
 
-from ocpp_board.ledger.events import LiveEvents
+from ocpp_board.ledger.events import Counted, LiveEvents
 from ocpp_board.messages.transactions import Event, Reading
 
 # Seconds by which a reading may lie beside the end of a period that it measures.
@@ -14,6 +14,7 @@ BESIDE = 2
 MOST_PERIODS = 9_000
 
 Gaps = Sequence[tuple[int, int]]
+Shares = dict[int, int]  # By the beginnings of periods, in seconds since 1970, net energies in mWh.
 
 
 class Doubt(NamedTuple):
@@ -29,34 +30,129 @@ SURE = Doubt()
 Doubts = dict[int, Doubt]  # By the beginnings of periods, in seconds since 1970; others are sure.
 
 
-def find_period_doubts(events: LiveEvents, seconds: int, gaps: Gaps) -> Doubts:
-    """The doubts of the periods in which a session ran. `gaps`: its missing numbers without those voided."""
-    moments = [event.at for event in events if event.at is not None]
-    moments += [one.at for event in events for one in event.readings if one.at is not None]
-    if not moments:
-        return {}
-    begin, end = min(moments), max(moments)
-    read = sorted({one.at for event in events for one in event.readings if one.at is not None})
-    doubts = Doubts()
-    for at in find_unmeasured(begin, end, seconds, read):
-        for start in (at - seconds, at):
-            doubts[start] = Doubt(is_estimated=True)
-    for start, mwh in share_by_time(events, seconds, doubts) if doubts else ():
-        doubts[start] = doubts[start]._replace(shared=doubts[start].shared + mwh)
-    for start in find_periods_with_gaps(events, seconds, gaps):
-        doubts[start] = doubts.get(start, SURE)._replace(has_gap=True)
-    return doubts
+class Spans:
+    """The times of a transaction beside those of periods. It takes its events and its counted readings in their order,
+    each once: so where a transaction goes on, nothing of it is looked at again."""
 
+    def __init__(self, seconds: int, within: int) -> None:
+        """`seconds`: those of a period; `within`: how far the first and the last reading may be from the start and the
+        end."""
+        self.seconds, self.within = seconds, within
+        # The first and the last time of events and of readings; all times of readings.
+        self.of_events: tuple[float, float] | None = None
+        self.of_readings: tuple[float, float] | None = None
+        self.readings = set[float]()
+        # The ends of periods that are measured; how many readings lie in the first second of a period, and the first.
+        self.measured = set[int]()
+        self.boundaries = 0
+        self.first_boundary: float | None = None
+        # By register, what periods get if energy is shared by time; None where that is to be looked for again, since
+        # readings came in another order than that of their times, or since there are many periods.
+        self.shares: list[Shares | None] = [{}, {}]
 
-def find_unmeasured(begin: float, end: float, seconds: int, read: Sequence[float]) -> Iterator[int]:
-    """The ends of periods within a session where it has no reading."""
-    first = (int(begin // seconds) + 1) * seconds
-    for at in range(first, first + MOST_PERIODS * seconds, seconds):
-        if at >= end:
+    def take_events(self, events: Iterable[Event]) -> None:
+        """Takes further events."""
+        self.of_events = widen(self.of_events, [one.at for one in events if one.at is not None])
+
+    def take_readings(self, is_export: bool, had: Reading | None, found: Sequence[Counted]) -> None:
+        """Takes further readings of a register. `had`: the one before them."""
+        moments = [one.at for _, one in found if one.at is not None]
+        self.of_readings = widen(self.of_readings, moments)
+        for at in moments:
+            if at not in self.readings:
+                self.readings.add(at)
+                self.take_moment(at)
+        readings = [one for _, one in found]
+        for before, one in pairwise([had, *readings] if had else readings):
+            self.share(is_export, before, one)
+
+    def take_moment(self, at: float) -> None:
+        """Takes the time of a reading."""
+        seconds = self.seconds
+        nearest = int((at + seconds / 2) // seconds) * seconds
+        if abs(at - nearest) <= BESIDE:
+            self.measured.add(nearest)
+        if at % seconds < 1:
+            self.boundaries += 1
+            if self.first_boundary is None or at < self.first_boundary:
+                self.first_boundary = at
+
+    def share(self, is_export: bool, had: Reading, one: Reading) -> None:
+        """Shares the energy between a reading of a register and the next one."""
+        shares = self.shares[is_export]
+        if shares is None:
             return
-        place = bisect_left(read, at - BESIDE)
-        if place == len(read) or read[place] > at + BESIDE:
-            yield at
+        assert had.at is not None and one.at is not None
+        if one.at < had.at or len(shares) > MOST_PERIODS:
+            self.shares[is_export] = None
+            return
+        for start, mwh in share_by_time(had, one, self.seconds):
+            shares[start] = shares.get(start, 0) + mwh
+
+    def find_doubts(self, events: LiveEvents, gaps: Gaps) -> Doubts:
+        """The doubts of the periods in which a session ran. `events`: all that were taken; `gaps`: its missing numbers
+        without those voided."""
+        starts = dict.fromkeys(
+            start for at in self.find_unmeasured() for start in (at - self.seconds, at)
+        )
+        starts |= dict.fromkeys(self.find_unread())
+        shares = [self.find_shares(events, is_export, starts) for is_export in (False, True)]
+        doubts = {
+            start: Doubt(True, shares[0].get(start, 0) + shares[1].get(start, 0))
+            for start in starts
+        }
+        for start in find_periods_with_gaps(events, self.seconds, gaps):
+            doubts[start] = doubts.get(start, SURE)._replace(has_gap=True)
+        return doubts
+
+    def find_unmeasured(self) -> Iterator[int]:
+        """The ends of periods within a session where it has no reading."""
+        times = [*(self.of_events or ()), *(self.of_readings or ())]
+        if not times:
+            return
+        first, end = (int(min(times) // self.seconds) + 1) * self.seconds, max(times)
+        for at in range(first, first + MOST_PERIODS * self.seconds, self.seconds):
+            if at >= end:
+                return
+            if at not in self.measured:
+                yield at
+
+    def find_unread(self) -> Iterator[int]:
+        """The periods from the start of a session to its first reading, and from its last reading to the end, where
+        these are further apart than they may be."""
+        if self.of_events is None:
+            return
+        begin, end = self.of_events
+        first, last = self.of_readings or (end, begin)
+        spans = [(begin, first)] if first - begin > self.within else []
+        spans += [(last, end)] if end - last > self.within else []
+        if self.of_readings is None:
+            spans = [(begin, end)]
+        for since, until in spans:
+            start = int(since // self.seconds) * self.seconds
+            yield from range(
+                start, min(int(until) + 1, start + MOST_PERIODS * self.seconds), self.seconds
+            )
+
+    def find_shares(self, events: LiveEvents, is_export: bool, starts: Collection[int]) -> Shares:
+        """What these periods get of a register where energy is shared by time."""
+        known = self.shares[is_export]
+        if known is not None or not starts:
+            return known or {}
+        found = dict[int, int]()
+        for had, one in pairwise(sort_by_time(events, is_export)):
+            for start, mwh in share_by_time(had, one, self.seconds):
+                if start in starts:
+                    found[start] = found.get(start, 0) + mwh
+        return found
+
+
+def widen(
+    known: tuple[float, float] | None, moments: Sequence[float]
+) -> tuple[float, float] | None:
+    """The first and the last of the moments that are known and of these."""
+    some = [*known, *moments] if known else moments
+    return (min(some), max(some)) if some else None
 
 
 def sort_by_time(events: LiveEvents, is_export: bool) -> list[Reading]:
@@ -64,21 +160,19 @@ def sort_by_time(events: LiveEvents, is_export: bool) -> list[Reading]:
     return sorted((one for _, one in events.readings(is_export)), key=lambda one: one.at or 0)
 
 
-def share_by_time(events: LiveEvents, seconds: int, doubts: Doubts) -> Iterator[tuple[int, int]]:
-    """What periods with doubts get of the energy between readings, where that is shared by time: net, in mWh."""
-    for is_export in (False, True):
-        for had, one in pairwise(sort_by_time(events, is_export)):
-            assert had.at is not None and one.at is not None
-            net = (had.mwh - one.mwh) if is_export else (one.mwh - had.mwh)
-            # A reading beside an end of a period is at it.
-            first = int((had.at + BESIDE) // seconds) * seconds
-            last = int((one.at - BESIDE) // seconds) * seconds
-            if not net or first >= last or last - first > MOST_PERIODS * seconds:
-                continue
-            for start in range(first, last + seconds, seconds):
-                part = min(one.at, start + seconds) - max(had.at, start)
-                if start in doubts and part > 0:
-                    yield start, round(net * part / (one.at - had.at))
+def share_by_time(had: Reading, one: Reading, seconds: int) -> Iterator[tuple[int, int]]:
+    """What periods get of the energy between a reading and the next one, where it is shared by time: net, in mWh."""
+    assert had.at is not None and one.at is not None
+    # A reading beside an end of a period is at it.
+    first = int((had.at + BESIDE) // seconds) * seconds
+    last = int((one.at - BESIDE) // seconds) * seconds
+    net = (had.mwh - one.mwh) if one.is_export else (one.mwh - had.mwh)
+    if not net or first >= last or last - first > MOST_PERIODS * seconds:
+        return
+    for start in range(first, last + seconds, seconds):
+        part = min(one.at, start + seconds) - max(had.at, start)
+        if part > 0:
+            yield start, round(net * part / (one.at - had.at))
 
 
 def find_periods_with_gaps(events: Sequence[Event], seconds: int, gaps: Gaps) -> Iterator[int]:

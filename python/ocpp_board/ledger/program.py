@@ -115,20 +115,20 @@ class LibraryProgram:
         """What each text asks for."""
         text, used = ctypes.create_string_buffer(LONGEST_WISH), ctypes.c_size_t()
         number = ctypes.c_uint32()
+        room = text, LONGEST_WISH, ctypes.byref(used), ctypes.byref(number)
         found = list[Wish]()
         for one, moment in zip(texts, moments):
             data = encode_text(one)
             if isinstance(data, Wish):
                 found.append(data)
                 continue
-            status = self.call_asks(
-                *(data, len(data), limit_moment(moment)),
-                *(text, LONGEST_WISH, ctypes.byref(used), ctypes.byref(number)),
-            )
+            status = self.call_asks(data, len(data), limit_moment(moment), *room)
             if status == EVENT:
-                found.append(Wish("event", text.raw[: used.value].decode("ascii"), number.value))
+                found.append(
+                    Wish("event", ctypes.string_at(text, used.value).decode("ascii"), number.value)
+                )
             elif status == REPLY:
-                found.append(Wish("reply", text.raw[: used.value].decode("utf-8")))
+                found.append(Wish("reply", ctypes.string_at(text, used.value).decode("utf-8")))
             elif status == SILENT:
                 found.append(Wish("silent"))
             else:

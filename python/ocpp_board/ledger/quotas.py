@@ -1,7 +1,7 @@
 """What a station may send, where its site has quotas: open transactions, and bytes a day.
 
 What is above is refused by the quota's name, and is a row of `refusal` as any other refused message. What a transaction
-may keep is in the site's rules.
+may keep is in the site's rules; messages a second are counted by the gateway that reads them.
 """
 
 import json
@@ -9,18 +9,16 @@ from collections.abc import Mapping, Sequence
 from datetime import datetime, timezone
 from typing import NamedTuple
 
-from ocpp_board.records import Message
-from ocpp_board.store.database import Database, Row
+from ocpp_board.records import Message, Quota
+from ocpp_board.store.database import Database
 from ocpp_board.store.lines import Key
 
 TOO_MANY_OPEN, TOO_MANY_BYTES = "TooManyOpen", "TooManyBytes"
-
-
-class Quota(NamedTuple):
-    """A site's quotas for each of its stations; 0: any number."""
-
-    open: int
-    bytes: int
+TOO_MANY_MESSAGES, TOO_MANY_STRAYS = "TooManyMessages", "TooManyStrays"
+# What a station sends too much of: of its refused texts some are kept each.
+FLOODS = frozenset((TOO_MANY_BYTES, TOO_MANY_MESSAGES, TOO_MANY_STRAYS))
+# Texts that are kept of a station that no site has.
+MOST_STRAYS = 50_000
 
 
 class Asking(NamedTuple):
@@ -31,25 +29,14 @@ class Asking(NamedTuple):
     key: Key | None
 
 
-def find_quotas(store: Database, sites: Sequence[str]) -> dict[str, Quota]:
-    """The quotas of those of these sites that have some."""
-    asked = "select site, most_open, most_bytes from site where (most_open > 0 or most_bytes > 0) and site"
-    if store.kind == "postgresql":
-        rows: list[Row] = store.fetch(f"{asked} = any(:sites)", sites=list(sites))
-    else:
-        some = store.fetch_each(f"{asked} = :site", [{"site": site} for site in sites])
-        rows = [row for one in some for row in one]
-    return {row.site: Quota(row.most_open, row.most_bytes) for row in rows}
-
-
 def find_refused(
-    store: Database, asking: Sequence[Asking], sites: Mapping[str, str]
+    store: Database,
+    asking: Sequence[Asking],
+    sites: Mapping[str, str],
+    quotas: Mapping[str, Quota],
 ) -> dict[int, str]:
     """The places of messages that are above a quota, each with the quota's name; what the others have is counted. The
     database transaction holds the sites of these stations."""
-    quotas = find_quotas(store, sorted(set(sites.values())))
-    if not quotas:
-        return {}
     refused = dict[int, str]()
     stations = {one.message.station for one in asking if sites[one.message.station] in quotas}
     for station in sorted(stations):
@@ -112,6 +99,25 @@ def refuse_bytes(
             **{"station": station, "day": day, "bytes": used - before, "messages": count},
         )
     return refused
+
+
+def find_strays_above(store: Database, texts: Sequence[tuple[str, str]]) -> set[tuple[str, str]]:
+    """Those of these texts of stations that no site has, by station and digest, that there is no room for."""
+    above = set[tuple[str, str]]()
+    for station in sorted({station for station, _ in texts}):
+        own = dict.fromkeys(text for text in texts if text[0] == station)
+        (row,) = store.fetch(
+            """select count(*) as n from (select 1 as one from stray where station = :station limit :most) as had""",
+            station=station,
+            most=MOST_STRAYS,
+        )
+        if row.n + len(own) <= MOST_STRAYS:
+            continue
+        asked = "select digest from stray where station = :station and digest = :digest"
+        rows = store.fetch_each(asked, [{"station": station, "digest": key[1]} for key in own])
+        new = [key for key, had in zip(own, list(rows)) if not had]
+        above.update(new[max(0, MOST_STRAYS - row.n) :])
+    return above
 
 
 def write_reply(text: str, name: str) -> str | None:

@@ -60,8 +60,8 @@ class Refusal(NamedTuple):
 
     @property
     def digest(self) -> str:
-        """That of the text and of what is said of it."""
-        return digest_text("\0".join((self.what, self.text)))
+        """That of the text; of a stranger without one that of what is said."""
+        return digest_text(self.text or self.what)
 
 
 def digest_text(text: str) -> str:
@@ -132,7 +132,7 @@ def describe_message(message: str, cause: str, received: datetime | None) -> Ref
 def describe_stranger(one: Message) -> Refusal:
     """A message of no transaction, of a station that no site has."""
     what = f"no station {shown(one.station)} is declared"
-    advice = "declare the station, or name it in the file of stations"
+    advice = f"add it by `plan station {one.station} --site SITE`: what came is taken then"
     return Refusal(UNKNOWN_STATION, what, advice, "", "", "", one.received)
 
 

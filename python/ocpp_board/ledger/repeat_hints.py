@@ -4,7 +4,7 @@ from collections.abc import Mapping
 from typing import NamedTuple
 
 from ocpp_board.ledger.answers import Board, Lists
-from ocpp_board.ledger.events import History, join_lists
+from ocpp_board.ledger.events import History, LiveEvents
 from ocpp_board.ledger.findings import Kind, find_falls_by_sequence, name_order_option
 from ocpp_board.ledger.replay import Key
 
@@ -28,7 +28,9 @@ def list_falls(board: Board) -> list[Key]:
 
 def is_repeated(lists: Lists) -> bool:
     """Whether a transaction with these lists has readings that are listed again."""
-    found = find_falls_by_sequence(join_lists(lists, History()), "")
+    events = LiveEvents()
+    events.take(lists, History())
+    found = find_falls_by_sequence(events, "")
     return any(one.kind is Kind.REPEATED for one in found)
 
 

@@ -86,7 +86,5 @@ def replay(
                 reader.skip_list()
             else:
                 reader.read()
-        lists = {
-            key: Lists(reader.read_events(), reader.read_readings()) for key in asks.get(number, ())
-        }
+        lists = {key: reader.read_lists() for key in asks.get(number, ())}
         yield Replayed(number, bare, answer, board, lists)

@@ -11,31 +11,24 @@ from typing import NamedTuple
 
 from ocpp_board.energies import Flow
 from ocpp_board.errors import ProgramError, StoreError
-from ocpp_board.ledger.answers import (
-    AnswerReader,
-    BoardPart,
-    Figures,
-    LineAnswer,
-    Lists,
-    read_line_answer,
-)
-from ocpp_board.ledger.events import History, LiveEvents, join_lists, read_history
-from ocpp_board.ledger.findings import Finding, find_doubts, name_order_option
-from ocpp_board.ledger.periods import find_holes, find_period_doubts
+from ocpp_board.ledger.answers import AnswerReader, BoardPart, Figures, read_answer
+from ocpp_board.ledger.course import NO_LINES, Block, Course
+from ocpp_board.ledger.events import Counted, History, read_conflict
+from ocpp_board.ledger.findings import Effect, Finding
+from ocpp_board.ledger.periods import SURE, Doubt, Doubts, Gaps, find_holes
 from ocpp_board.ledger.program import Program
 from ocpp_board.limits import LONGEST_SCRIPT, MOST_READINGS, MOST_SITES, MOST_STATIONS
-from ocpp_board.messages.bills import NOTHING, with_key
-from ocpp_board.records import Line, Rules
+from ocpp_board.records import DELIVER, Answer, Line, Rules
 
 # Who voided an event, where no name was given.
 SOMEBODY = "an operator"
 # Bytes of a script's lines at which another script begins, but for those of one transaction.
 MOST_BYTES = 8 * 1_048_576
-# Readings of one message that count, at most, and the least bytes of one.
-MOST_OF_A_MESSAGE, LEAST_READING = 1_024, 11
-# Texts that have their counts of readings kept.
-KEPT_COUNTS = 50_000
-DELIVER, CONFLICT = "deliver ", "ConflictingEvent"
+# Moments that have their values kept, since many periods begin at the same.
+KEPT_MOMENTS = 65_536
+CONFLICT, NO_FLOW = "ConflictingEvent", Flow()
+# What the answers to accepted messages begin with, as many as were needed.
+MARKS: list[str] = []
 
 
 class Session(NamedTuple):
@@ -74,6 +67,10 @@ class Session(NamedTuple):
     boundary_moments: int
     first_boundary_at: datetime | None
     received_until: datetime | None
+    energy_measured: str
+    first_reading_at: datetime | None
+    last_reading_at: datetime | None
+    peak_w: int
 
 
 class Part(NamedTuple):
@@ -101,7 +98,8 @@ class Rows(NamedTuple):
 
 class Work(NamedTuple):
     """A transaction with its stored lines and new ones. `conflicts`: lines that conflicted with its events; `has_rows`:
-    rows are wanted though nothing changes."""
+    rows are wanted though nothing changes; `course`: what is known of its stored lines, if something is, and may be
+    changed."""
 
     station: str
     transaction: str
@@ -111,13 +109,17 @@ class Work(NamedTuple):
     new: list[Line]
     conflicts: list[str]
     has_rows: bool = False
+    course: Course | None = None
 
 
 class Done(NamedTuple):
-    """The answers to the new lines of a work, and its rows after them; None where nothing changed."""
+    """The answers to the new lines of a work, those that were accepted, and its rows after them, with what is known of
+    its lines then; None where nothing changed."""
 
-    answers: list[LineAnswer]
+    answers: list[Answer]
+    accepted: list[Line]
     rows: Rows | None
+    course: Course | None = None
 
 
 def rows_of(
@@ -145,39 +147,58 @@ def work_out(program: Program, works: Iterable[Work]) -> Iterator[Done]:
         boards = dict[str, BoardPart]()
         for _ in group_by_rules(some):
             boards |= reader.read_board(has_own=False).stations
-        for one, name, own in zip(some, name_stations(some), answers):
-            yield finish_work(one.work, own, boards[name], reader)
+        for one, own in zip(some, answers):
+            yield finish_work(one.work, own, boards[one.work.station], reader)
 
 
-def read_answers(work: Work, reader: AnswerReader) -> list[LineAnswer]:
+def read_answers(work: Work, reader: AnswerReader) -> list[Answer]:
     """The answers to a transaction's new lines; its stored ones have to be accepted. Raises StoreError."""
-    for line, answer in zip(work.stored, reader.read_some(len(work.stored))):
-        wanted = f"accepted {line.number}"
-        if not answer.startswith(wanted) or answer[len(wanted) : len(wanted) + 1].strip():
-            where = f"line {line.number} of transaction {work.transaction} of {work.station}"
-            raise StoreError(f"{where} is answered {answer[:80]!r}: the store is damaged")
-    return [read_line_answer(answer) for answer in reader.read_some(len(work.new))]
+    stored = reader.read_some(len(work.stored))
+    are_whole = not stored or work.stored[-1].number == len(stored)
+    if not are_whole or not all(map(str.startswith, stored, write_marks(len(stored)))):
+        for line, answer in zip(work.stored, stored):
+            mark = f"accepted {line.number}"
+            if answer != mark and not answer.startswith(f"{mark} "):
+                where = f"line {line.number} of transaction {work.transaction} of {work.station}"
+                raise StoreError(f"{where} is answered {answer[:80]!r}: the store is damaged")
+    new = reader.read_some(len(work.new))
+    return [read_answer(answer, work.transaction) for answer in new]
 
 
-def finish_work(
-    work: Work, answers: list[LineAnswer], board: BoardPart, reader: AnswerReader
-) -> Done:
+def write_marks(count: int) -> list[str]:
+    """What the answers to so many messages begin with at least that are accepted one after the other."""
+    MARKS.extend(f"accepted {number} " for number in range(len(MARKS) + 1, count + 1))
+    return MARKS
+
+
+def finish_work(work: Work, answers: list[Answer], board: BoardPart, reader: AnswerReader) -> Done:
     """What became of a transaction's new lines, and its rows. The reader is before its two lists."""
-    lists = Lists(reader.read_events(), reader.read_readings())
-    accepted, conflicts = list_accepted(work, answers), dict.fromkeys(work.conflicts)
+    lists = reader.read_lists()
+    accepted, conflicts = list_accepted(work, answers), work.conflicts
+    if len(accepted) < len(work.new):
+        conflicts = add_conflicts(work, answers)
+    if not accepted and len(conflicts) == len(work.conflicts) and not work.has_rows:
+        return Done(answers, accepted, None)
+    course, lines = work.course, accepted
+    if course is None or not course.goes_on(accepted, lists, work.rules):
+        course, lines = Course(work.site, work.rules), [*work.stored, *accepted]
+    course.take(lines, lists)
+    return Done(answers, accepted, make_rows(work, course, board, conflicts), course)
+
+
+def add_conflicts(work: Work, answers: Sequence[Answer]) -> list[str]:
+    """The lines that conflict with a transaction's events, with those that are new."""
+    conflicts = dict.fromkeys(work.conflicts)
     for line, answer in zip(work.new, answers):
         if answer.name == CONFLICT and line.text.startswith(DELIVER):
             conflicts[line.text] = None
-    if not accepted and len(conflicts) == len(work.conflicts) and not work.has_rows:
-        return Done(answers, None)
-    work = work._replace(conflicts=list(conflicts))
-    return Done(answers, make_rows(work, [*work.stored, *accepted], board, lists))
+    return list(conflicts)
 
 
-def list_accepted(work: Work, answers: Sequence[LineAnswer]) -> list[Line]:
+def list_accepted(work: Work, answers: Sequence[Answer]) -> list[Line]:
     """The new lines of a work that were accepted, each with its place among those of its transaction."""
     return [
-        Line(answer.change, *line[1:])
+        Line(answer.count, *line[1:])
         for line, answer in zip(work.new, answers)
         if answer.outcome == "accepted"
     ]
@@ -186,191 +207,168 @@ def list_accepted(work: Work, answers: Sequence[LineAnswer]) -> list[Line]:
 # Scripts --------------------------------------------------------------------------------------------------------------
 
 
-@lru_cache(KEPT_COUNTS)
-def count_readings(text: str) -> int:
-    """How many readings a text has, at most."""
-    if "\\" in text:
-        return min(MOST_OF_A_MESSAGE, len(text) // LEAST_READING + 1)
-    return min(MOST_OF_A_MESSAGE, text.count('"value"'))
-
-
-class Measured(NamedTuple):
-    """A work with what a script has to keep for it: its rules' limits, or what its lines can have, if that is less."""
+class Piece(NamedTuple):
+    """A work with its stored lines and its new ones as a script has them."""
 
     work: Work
-    events: int
-    readings: int
-    size: int
+    stored: Block
+    new: Block
 
+    @property
+    def size(self) -> int:
+        """About how many bytes it has."""
+        return len(self.stored.text) + len(self.new.text)
 
-def measure(work: Work) -> Measured:
-    """A work with what a script has to keep for it."""
-    events = readings = size = 0
-    for some in (work.stored, work.new):
-        for line in some:
-            text = line.text
-            size += len(text)
-            if text.startswith(DELIVER):
-                events += 1
-                readings += count_readings(text)
-    limits = work.rules.limits
-    return Measured(
-        work, max(min(limits.events, events), 1), max(min(limits.readings, readings), 1), size
-    )
+    @property
+    def room(self) -> tuple[int, int]:
+        """The events and readings that a script keeps for it: as many as its rules have, or as its lines can have, if
+        that is less."""
+        limits = self.work.rules.limits
+        events = min(limits.events, self.stored.lines + self.new.lines)
+        return max(events, 1), max(
+            min(limits.readings, self.stored.readings + self.new.readings), 1
+        )
 
-
-def part_works(works: Iterable[Work]) -> Iterator[list[Measured]]:
-    """Works in lists that a script has room for."""
-    some, readings, size, kinds = list[Measured](), 0, 0, set[Kind]()
-    for one in map(measure, works):
-        kinds.add(name_kind(one))
-        if some and (
-            len(some) == MOST_STATIONS
-            or readings + one.readings > MOST_READINGS
-            or size + one.size > MOST_BYTES
-            or len(kinds) > MOST_SITES
-        ):
-            yield some
-            some, readings, size, kinds = [], 0, 0, {name_kind(one)}
-        some.append(one)
-        readings, size = readings + one.readings, size + one.size
-    if some:
-        yield some
+    @property
+    def kind(self) -> "Kind":
+        """What its site decides of a board."""
+        rules = self.work.rules
+        return rules.period, rules.order, rules.settle
 
 
 # What a site decides of a board.
 Kind = tuple[int, str, str]
 
 
-def name_kind(one: Measured) -> Kind:
-    """What the work's site decides of a board."""
-    rules = one.work.rules
-    return rules.period, rules.order, rules.settle
+def make_piece(work: Work) -> Piece:
+    """The piece of a script that is a work's."""
+    stored = work.course.block if work.course else NO_LINES.add(work.stored)
+    return Piece(work, stored, NO_LINES.add(work.new))
 
 
-def group_by_rules(works: Sequence[Measured]) -> list[tuple[Kind, list[int]]]:
-    """The numbers of works by what their sites decide of a board."""
-    found = dict[Kind, list[int]]()
-    for number, one in enumerate(works):
-        found.setdefault(name_kind(one), []).append(number)
-    return list(found.items())
+def part_works(works: Iterable[Work]) -> Iterator[list[Piece]]:
+    """Works in lists that a script has room for, each with a station of its own."""
+    some, readings, size = list[Piece](), 0, 0
+    stations, kinds = set[str](), set[Kind]()
+    for one in map(make_piece, works):
+        station, own = one.work.station, one.room[1]
+        if (
+            station in stations
+            or len(some) == MOST_STATIONS
+            or some
+            and (readings + own > MOST_READINGS or size + one.size > MOST_BYTES)
+            or one.kind not in kinds
+            and len(kinds) == MOST_SITES
+        ):
+            yield some
+            some, readings, size = [], 0, 0
+            stations, kinds = set(), set()
+        some.append(one)
+        readings, size = readings + own, size + one.size
+        stations.add(station)
+        kinds.add(one.kind)
+    if some:
+        yield some
 
 
-def name_stations(works: Sequence[Measured]) -> list[str]:
-    """The stations of a script: each work has one of its own."""
-    names = [one.work.station for one in works]
-    return names if len(set(names)) == len(names) else [f"t{n}" for n in range(len(names))]
+def group_by_rules(pieces: Iterable[Piece]) -> dict[Kind, list[Piece]]:
+    """Pieces by what their sites decide of a board."""
+    found = dict[Kind, list[Piece]]()
+    for one in pieces:
+        found.setdefault(one.kind, []).append(one)
+    return found
 
 
-def write_script(works: Sequence[Measured]) -> bytes:
-    """A script in which each transaction has a station of its own: its lines, then the boards, then the lists."""
-    sites, names, lines = group_by_rules(works), name_stations(works), list[str]()
-    for site, ((period, order, settle), ones) in enumerate(sites):
-        for number in ones:
-            lines.append(f"limits 1 {works[number].events} {works[number].readings} {2**63}")
-            lines.append(f"station s{site} {names[number]}")
-        lines += [f"period s{site} {period}", f"order s{site} {order}", f"settle s{site} {settle}"]
-    for name, one in zip(names, works):
-        own = (line.text for line in (*one.work.stored, *one.work.new))
-        lines += own if name == one.work.station else (name_station(text, name) for text in own)
-    lines += (f"board s{site}" for site in range(len(sites)))
-    for name, one in zip(names, works):
-        lines.append(f"events {name} {one.work.transaction}")
-        lines.append(f"readings {name} {one.work.transaction}")
-    script = "\n".join([*lines, ""])
-    if "\r\n" in script:
-        # The program drops one carriage return before a line feed: a message's own stays.
-        script = script.replace("\r\n", "\r\r\n")
-    data = script.encode()
+def write_script(pieces: Sequence[Piece]) -> bytes:
+    """A script of transactions of different stations: their lines, then the boards, then the lists."""
+    sites, texts = group_by_rules(pieces), list[str]()
+    for site, ((period, order, settle), some) in enumerate(sites.items()):
+        for one in some:
+            events, readings = one.room
+            texts.append(f"limits 1 {events} {readings} {2**63}\n")
+            texts.append(f"station s{site} {one.work.station}\n")
+        texts.append(f"period s{site} {period}\norder s{site} {order}\nsettle s{site} {settle}\n")
+    for one in pieces:
+        texts += [one.stored.text, one.new.text]
+    texts += [f"board s{site}\n" for site in range(len(sites))]
+    for one in pieces:
+        name = f"{one.work.station} {one.work.transaction}"
+        texts.append(f"events {name}\nreadings {name}\n")
+    data = "".join(texts).encode()
     if len(data) > LONGEST_SCRIPT:
         raise ProgramError(f"a transaction has more than {LONGEST_SCRIPT:,} bytes of lines")
     return data
 
 
-def name_station(text: str, station: str) -> str:
-    """A line with another station."""
-    word, _, rest = text.split(" ", 2)
-    return f"{word} {station} {rest}"
-
-
 # Rows -----------------------------------------------------------------------------------------------------------------
 
 
-def make_rows(work: Work, lines: Sequence[Line], board: BoardPart, lists: Lists) -> Rows:
-    """The rows of a transaction whose board and lists the program wrote."""
-    history = read_history(lines, work.conflicts)
-    events = join_lists(lists, history)
+def make_rows(work: Work, course: Course, board: BoardPart, conflicts: Sequence[str]) -> Rows:
+    """The rows of a transaction by its course, and by the board that the program wrote."""
     figures = board.transactions.get(work.transaction)
     gaps = board.gaps.get(work.transaction, [])
-    lost = leave_voided(gaps, history)
-    session = make_session(work, len(lines), board, history, events)
-    by_sequence = None if work.rules.order == "moment" else name_order_option(work.site)
-    findings = find_doubts(
-        history, events, figures is not None and figures.complete, by_sequence, work.rules.most_kw
+    lost = leave_voided(gaps, course.history)
+    findings = course.doubts.find(
+        course.events,
+        list(map(read_conflict, conflicts)),
+        figures is not None and figures.complete,
+        course.spans.of_readings,
     )
-    return Rows(session, make_parts(work.rules.period, board, events, lost), findings)
+    session = make_session(work.transaction, course, board, gaps, lost)
+    is_wrong = any(one.kind.effect is Effect.WRONG for one in findings)
+    doubts = course.spans.find_doubts(course.events, lost)
+    return Rows(session, make_parts(board, doubts, is_wrong), findings)
 
 
 def make_session(
-    work: Work, lines: int, board: BoardPart, history: History, events: LiveEvents
+    transaction: str, course: Course, board: BoardPart, gaps: Gaps, lost: Gaps
 ) -> Session:
-    """The row of a transaction."""
-    figures = board.transactions.get(work.transaction)
-    gaps = board.gaps.get(work.transaction, [])
-    started = next((event for event in events if event.kind == "Started"), None)
-    ended = next((event for event in reversed(events) if event.kind == "Ended"), None)
-    moments = [event.at for event in events if event.at is not None]
-    holes = list(find_holes(events, leave_voided(gaps, history)))
-    read = {one.at for event in events for one in event.readings if one.at is not None}
-    there = [at for at in read if at % work.rules.period < 1]
-    token = next((event.details for event in events if event.details.token), NOTHING)
-    signed = with_key([one for event in events for one in event.details.signed])
+    """The row of a transaction. `gaps`: its missing numbers; `lost`: those without what operators voided."""
+    figures, total = board.transactions.get(transaction), board.total
+    history, events, spans, facts = course.history, course.events, course.spans, course.facts
+    holes = list(find_holes(events, lost))
+    first_at, last_at = spans.of_events or (None, None)
+    first_read, last_read = spans.of_readings or (None, None)
+    signed = facts.list_signed()
     return Session(
-        lines=lines,
-        evse=figures.evse if figures else 0,
-        events=board.total.events,
-        voided=board.total.voided,
-        first_number=figures.first if figures else None,
-        last_number=figures.last if figures else None,
-        complete=figures is not None and figures.complete,
-        missing=board.total.missing,
-        gaps=" ".join(f"{first}..{last}" for first, last in gaps),
-        up=board.total.flow.up,
-        down=board.total.flow.down,
-        export_up=board.total.flow.export_up,
-        export_down=board.total.flow.export_down,
-        state=name_state(figures, history, events) if figures else "all voided",
-        began=to_moment(started.at) if started else None,
-        ended=to_moment(ended.at) if ended else None,
-        first_at=to_moment(min(moments, default=None)),
-        last_at=to_moment(max(moments, default=None)),
-        **find_registers(events),
-        stopped_reason=ended.reason if ended else "",
-        sent_id=history.sent or work.transaction,
-        token=token.token,
-        token_type=token.kind,
-        remote_start_id=next(
-            (one.details.remote_start for one in events if one.details.remote_start), ""
-        ),
-        signed=json.dumps([[one.data, one.key] for one in (signed[0], signed[-1])])
-        if signed
-        else "",
-        holes=json.dumps(holes) if holes else "",
-        reading_moments=len(read),
-        boundary_moments=len(there),
-        first_boundary_at=to_moment(min(there, default=None)),
-        received_until=history.received_until,
+        course.block.lines,
+        figures.evse if figures else 0,
+        total.events,
+        total.voided,
+        figures.first if figures else None,
+        figures.last if figures else None,
+        figures is not None and figures.complete,
+        total.missing,
+        " ".join(f"{first}..{last}" for first, last in gaps),
+        *total.flow,
+        name_state(figures, course) if figures else "all voided",
+        to_moment(facts.started.at) if facts.started else None,
+        to_moment(facts.ended.at) if facts.ended else None,
+        to_moment(first_at),
+        to_moment(last_at),
+        *find_ends(events.orders[0]),
+        *find_ends(events.orders[1]),
+        facts.ended.reason if facts.ended else "",
+        history.sent or transaction,
+        facts.token.token,
+        facts.token.kind,
+        facts.remote_start,
+        json.dumps(signed) if signed else "",
+        json.dumps(holes) if holes else "",
+        len(spans.readings),
+        spans.boundaries,
+        to_moment(spans.first_boundary),
+        history.received_until,
+        course.doubts.name_measured(spans.of_readings),
+        to_moment(first_read),
+        to_moment(last_read),
+        round(course.doubts.peak * 1_000),
     )
 
 
-def find_registers(events: LiveEvents) -> dict[str, int | None]:
-    """The first and the last counted reading of each register, in the order in which the ledger takes them."""
-    found = dict[str, int | None]()
-    for is_export, name in ((False, "register"), (True, "export_register")):
-        readings = events.readings(is_export)
-        found[f"first_{name}"] = readings[0][1].mwh if readings else None
-        found[f"last_{name}"] = readings[-1][1].mwh if readings else None
-    return found
+def find_ends(found: Sequence[Counted]) -> tuple[int | None, int | None]:
+    """The first and the last counted reading of a register, in the order in which the ledger takes them."""
+    return (found[0][1].mwh, found[-1][1].mwh) if found else (None, None)
 
 
 def to_moment(seconds: float | None) -> datetime | None:
@@ -378,7 +376,7 @@ def to_moment(seconds: float | None) -> datetime | None:
     return None if seconds is None else read_moment(seconds)
 
 
-@lru_cache(KEPT_COUNTS)
+@lru_cache(KEPT_MOMENTS)
 def read_moment(seconds: float) -> datetime:
     """A moment in seconds since 1970, in UTC."""
     return datetime.fromtimestamp(seconds, timezone.utc)
@@ -401,11 +399,14 @@ def name_voiders(voids: Sequence[tuple[str, str]]) -> str:
     return "voided by " + ", ".join(dict.fromkeys(who or SOMEBODY for who, _ in voids))
 
 
-def name_state(figures: Figures, history: History, events: LiveEvents) -> str:
+def name_state(figures: Figures, course: Course) -> str:
     """What can be said of a transaction's end and of its missing numbers."""
+    history, events = course.history, course.events
     voids = {number: history.voids[number] for number in sorted(history.voids)}
     if figures.complete:
         return "complete"
+    if step := course.facts.find_step(figures):
+        return f"complete, numbers in steps of {step}"
     if figures.missing:
         inside = [one for number, one in voids.items() if figures.first < number < figures.last]
         if not inside:
@@ -414,35 +415,34 @@ def name_state(figures: Figures, history: History, events: LiveEvents) -> str:
         return more + name_voiders(inside)
     if events[0].kind != "Started":
         state, lacks = "no start", "Started"
-    elif {"Started", "Ended"} & {event.kind for event in events[1:]}:
+    elif course.facts.is_misplaced:
         return "a start or end misplaced"
     else:
         state, lacks = "no end yet", "Ended"
-    ends = [
-        one
-        for number, one in voids.items()
-        if number in history.told and history.told[number].event.kind == lacks
-    ]
+    ends = [one for number, one in voids.items() if events.voided.get(number) == lacks]
     return f"{name_voiders(ends)}: {state.removesuffix(' yet')}" if ends else state
 
 
-def make_parts(
-    seconds: int, board: BoardPart, events: LiveEvents, lost: Sequence[tuple[int, int]]
-) -> list[Part]:
-    """The rows of a transaction's periods: those that its board shows, and those that are doubtful."""
-    doubts = find_period_doubts(events, seconds, lost)
-    found = list[Part]()
-    for start in sorted({*board.periods, *doubts}):
-        flow, doubt = board.periods.get(start), doubts.get(start)
-        is_estimated = doubt is not None and doubt.is_estimated
-        found.append(
-            Part(
-                read_moment(start),
-                *(flow or Flow()),
-                flow is not None,
-                not is_estimated,
-                doubt.shared if doubt and is_estimated else None,
-                doubt is not None and doubt.has_gap,
-            )
-        )
-    return found
+def make_parts(board: BoardPart, doubts: Doubts, is_wrong: bool) -> list[Part]:
+    """The rows of a transaction's periods: those that its board shows, and those that are doubtful. `is_wrong`: a
+    number of the transaction is wrong, so none of its periods is measured."""
+    flows = board.periods
+    starts = sorted({*flows, *doubts}) if doubts else flows
+    found = [make_part(start, flows.get(start), doubts.get(start, SURE)) for start in starts]
+    return (
+        [one._replace(measured=False, shared=one.shared or 0) for one in found]
+        if is_wrong
+        else found
+    )
+
+
+def make_part(start: int, flow: Flow | None, doubt: Doubt) -> Part:
+    """The row of a period."""
+    return Part(
+        read_moment(start),
+        *(flow or NO_FLOW),
+        flow is not None,
+        not doubt.is_estimated,
+        doubt.shared if doubt.is_estimated else None,
+        doubt.has_gap,
+    )

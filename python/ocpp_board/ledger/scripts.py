@@ -1,17 +1,28 @@
 """Whole scripts of a site's lines: for comparing a store with the program, and for taking lines out of it."""
 
 from collections.abc import Callable, Iterable, Iterator, Sequence
-from dataclasses import dataclass, field
+from dataclasses import dataclass, field, replace
 from itertools import groupby
 from operator import attrgetter
 
-from ocpp_board.ledger.rows import DELIVER, count_readings
-from ocpp_board.limits import GREATEST_LIMITS, MOST_READINGS, MOST_STATIONS
-from ocpp_board.records import Rules
+from ocpp_board.ledger.course import LEAST_READING
+from ocpp_board.limits import GREATEST_LIMITS, MOST_READINGS, MOST_STATIONS, ORDERS
+from ocpp_board.records import DELIVER, Rules
 from ocpp_board.store.database import Row
 
-# Bytes of a script at which another one begins.
+# The orders that a transaction may have, and first none of its own.
+OWN_ORDERS = ("", *ORDERS)
+# Readings of one message that count, at most.
+MOST_OF_A_MESSAGE = 1_024
+# Bytes of a script: after so many another one begins.
 MOST_BYTES = 32 * 1_048_576
+
+
+def count_readings(text: str) -> int:
+    """How many readings a line has, at most."""
+    if "\\" in text:
+        return min(MOST_OF_A_MESSAGE, len(text) // LEAST_READING + 1)
+    return min(MOST_OF_A_MESSAGE, text.count('"value"'))
 
 
 @dataclass(slots=True)
@@ -37,8 +48,9 @@ class Use:
 
 @dataclass(slots=True)
 class Script:
-    """A script of a site's lines that grows."""
+    """A script of a site's lines that grows. `order`: that of its transactions, where it is not the site's."""
 
+    order: str = ""
     uses: dict[str, Use] = field(default_factory=dict)
     lines: list[str] = field(default_factory=list)
     size: int = 0
@@ -68,7 +80,7 @@ class Script:
             events, readings = max(use.events, 1), max(use.readings, 1)
             heads.append(f"limits {use.transactions} {events} {readings} {2**63}")
             heads.append(f"station {site} {station}")
-        heads += write_rules(site, rules)
+        heads += write_rules(site, replace(rules, order=self.order) if self.order else rules)
         return "\n".join([*heads, *self.lines, f"board {site}", ""]).encode()
 
 
@@ -81,10 +93,12 @@ def write_rules(site: str, rules: Rules) -> list[str]:
     ]
 
 
-def part_scripts(rows: Iterable[Row], write: Callable[[Row], Iterator[str]]) -> Iterator[Script]:
+def part_scripts(
+    rows: Iterable[Row], write: Callable[[Row], Iterator[str]], order: str = ""
+) -> Iterator[Script]:
     """Scripts of a site's lines, which come by station and transaction. `write`: the lines of a script for a stored
-    one, of which the last is the line itself."""
-    script = Script()
+    one, of which the last is the line itself; `order`: as in Script."""
+    script = Script(order)
     for (station, _), some in groupby(rows, attrgetter("station", "transaction_id")):
         stored = list(some)
         texts = [row.line for row in stored if row.line.startswith(DELIVER)]
@@ -92,7 +106,7 @@ def part_scripts(rows: Iterable[Row], write: Callable[[Row], Iterator[str]]) -> 
         lines = [line for row in stored for line in write(row)]
         if not script.takes(station, events, readings, sum(map(len, lines))):
             yield script
-            script = Script()
+            script = Script(order)
         script.add(station, lines, events, readings)
     if script.lines:
         yield script

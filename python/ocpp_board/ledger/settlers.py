@@ -1,16 +1,23 @@
-"""Processes that settle at once in one store, each what is of its own stations."""
+"""Processes that settle at once in one store, each for its own stations."""
 
 import multiprocessing
+from collections import Counter
 from collections.abc import Sequence
 from multiprocessing.pool import AsyncResult
 from multiprocessing.synchronize import Lock
 from types import TracebackType
+from typing import Any
 from zlib import crc32
 
 from ocpp_board.ledger.engine import settle
-from ocpp_board.processes import leave_interrupts
-from ocpp_board.records import Answer, Asked
+from ocpp_board.processes import leave_interrupts, pause_collector
+from ocpp_board.records import Asked, Deed, Message, Untaken
 from ocpp_board.store.database import Database, open_store
+
+# What is asked goes from process to process as plain tuples, each with the place of its kind.
+KINDS: tuple[Any, ...] = (Message, Deed, Untaken)
+PLACES = {kind: place for place, kind in enumerate(KINDS)}
+Packed = list[tuple[int, tuple[Any, ...]]]
 
 
 class Settler:
@@ -26,26 +33,27 @@ def open_settler(name: str, is_durable: bool, guard: Lock) -> None:
     Settler.store, Settler.guard = open_store(name, is_durable), guard
 
 
-def settle_own(asked: Sequence[Asked]) -> list[Answer]:
-    """Settles what is of the stations of this process."""
-    return settle(Settler.store, asked, guard=Settler.guard)
+def settle_own(packed: Packed) -> Counter[str]:
+    """Settles what is of the stations of this process, and counts the outcomes."""
+    with pause_collector():
+        asked = [KINDS[place]._make(values) for place, values in packed]
+        answers = settle(Settler.store, asked, guard=Settler.guard)
+        return Counter(one.outcome for one in answers)
 
 
 class Pending:
-    """What was asked and is being settled: by process, the places and what becomes of them."""
+    """What was asked and is being settled, a part by each process."""
 
-    def __init__(
-        self, count: int, parts: list[tuple[list[int], "AsyncResult[list[Answer]]"]]
-    ) -> None:
-        self.count, self.parts = count, parts
+    def __init__(self, parts: "list[AsyncResult[Counter[str]]]") -> None:
+        self.parts = parts
 
-    def get(self) -> list[Answer]:
-        """The answers, once all of it is committed. Raises StoreError and ProgramError; what is of other stations may
-        be settled then."""
-        found = dict[int, Answer]()
-        for places, result in self.parts:
-            found |= zip(places, result.get())
-        return [found[place] for place in range(self.count)]
+    def get(self) -> Counter[str]:
+        """How many there are of each outcome, once all of it is committed. Raises StoreError and ProgramError; what is
+        of other stations may be settled then."""
+        found = Counter[str]()
+        for part in self.parts:
+            found += part.get()
+        return found
 
 
 class Settlers:
@@ -55,24 +63,24 @@ class Settlers:
         context = multiprocessing.get_context("forkserver")
         words = (name, is_durable, context.Lock())
         self.pools = [context.Pool(1, open_settler, words) for _ in range(processes)]
+        self.place_of = dict[str, int]()
+
+    def find_place(self, station: str) -> int:
+        """The place of the process that settles what is of a station."""
+        place = self.place_of.get(station)
+        if place is None:
+            place = crc32(station.encode("utf-8", "replace")) % len(self.pools)
+            self.place_of[station] = place
+        return place
 
     def submit(self, asked: Sequence[Asked]) -> Pending:
-        """Has some of what is asked settled; the next may be submitted before its answers are there."""
-        places: list[list[int]] = [[] for _ in self.pools]
-        for place, one in enumerate(asked):
-            places[crc32(one.station.encode("utf-8", "replace")) % len(places)].append(place)
+        """Has some of what is asked settled; the next may be submitted before this is."""
+        parts: list[Packed] = [[] for _ in self.pools]
+        for one in asked:
+            parts[self.find_place(one.station)].append((PLACES[type(one)], tuple(one)))
         return Pending(
-            len(asked),
-            [
-                (some, pool.apply_async(settle_own, ([asked[place] for place in some],)))
-                for pool, some in zip(self.pools, places)
-                if some
-            ],
+            [pool.apply_async(settle_own, (part,)) for pool, part in zip(self.pools, parts) if part]
         )
-
-    def settle(self, asked: Sequence[Asked]) -> list[Answer]:
-        """The answers to what is asked, in its order, once all of it is committed."""
-        return self.submit(asked).get()
 
     def close(self) -> None:
         """Ends the processes, once they have settled what was submitted."""

@@ -12,7 +12,7 @@ from ocpp_board.errors import OcppBoardError
 from ocpp_board.ledger.answers import AnswerReader, Board, BoardPart, Figures, Total
 from ocpp_board.ledger.engine import Pool
 from ocpp_board.ledger.program import find_program
-from ocpp_board.ledger.scripts import Script, part_scripts, write_line
+from ocpp_board.ledger.scripts import OWN_ORDERS, Script, part_scripts, write_line
 from ocpp_board.limits import FIRST_MOMENT
 from ocpp_board.records import Rules
 from ocpp_board.store.database import Database
@@ -23,7 +23,7 @@ AT_ONCE = 8
 LINES = """
 select l.station, l.transaction_id, l.line from session s
 join line l on l.station = s.station and l.transaction_id = s.transaction_id
-where s.site = :site order by l.station, l.transaction_id, l.number
+where s.site = :site and s.own_order = :order order by l.station, l.transaction_id, l.number
 """
 COUNTS = ("events", "voided", "transactions", "complete_transactions", "missing")
 FLOW = Flow._fields
@@ -90,7 +90,12 @@ def find_orphans(store: Database) -> None:
 def replay_site(store: Database, site: str, rules: Rules, pool: Pool | None) -> Board:
     """A site's board by the program, from all its lines. Raises Difference where a line is not accepted."""
     board = Board(site)
-    for some in take_some(part_scripts(store.stream(LINES, site=site), write_line), AT_ONCE):
+    scripts = (
+        script
+        for order in OWN_ORDERS
+        for script in part_scripts(store.stream(LINES, site=site, order=order), write_line, order)
+    )
+    for some in take_some(scripts, AT_ONCE):
         pieces = [(script.write(site, rules), len(script.lines), site) for script in some]
         boards = pool.imap(replay_script, pieces) if pool else map(replay_script, pieces)
         for one in boards:

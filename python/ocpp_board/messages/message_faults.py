@@ -26,17 +26,26 @@ KINDS = ("Started", "Updated", "Ended")
 # EVSEs of a station, exponents of a unit's multiplier, and readings of a message.
 MOST_EVSES, GREATEST_MULTIPLIER, MOST_READINGS = 64, 12, 1_024
 LONGEST_ID = 36
-UNSET_CLOCK = (
-    "set the station's clock; what it sent meanwhile is lost unless it sends it again with a time"
+# What is advised where a declared mend takes a message as it is meant, with the mend and what it does.
+MEND = (
+    "take it {1}: from a log by `--mend SITE={0}` of report, follow or log-to-script; in a store by `ocpp-board take "
+    "STATION --mend {0} --why ..`"
 )
-# What takes messages of a log as they are meant.
-MEND_VALUE = (
-    "take the log again with `--mend SITE=text-value` of report, follow or log-to-script, which takes it as "
-    "a number"
+MEND_VALUE = MEND.format("text-value", "as a number")
+MEND_TIME = MEND.format("no-offset:ZONE", "in the zone that is named")
+MEND_CLOCK = (
+    f"set the station's clock; {MEND.format('unset-clock', 'with the time of its receipt')}"
 )
-MEND_TIME = (
-    "take the log again with `--mend SITE=no-offset:ZONE` of report, follow or log-to-script, which names "
-    "its zone"
+MEND_LISTED = MEND.format("listed-time", "without this reading")
+MEND_UNIT = MEND.format("unit", "in Wh or kWh, as its letters mean")
+MEND_ID = MEND.format("ids", "without blanks and braces in the id")
+MEND_EVSE = MEND.format("evse", "with EVSE 0 as none, and `evse:70:1` EVSE 70 as 1")
+MEND_NEGATIVE = MEND.format("negative", "as 0, if it is small")
+MEND_PARTED = MEND.format("parted", "in several events, if it is the end")
+# What is advised where none does.
+CORRECT = (
+    "correct the text, or leave it out: in a store by `ocpp-board take STATION --text FILE --why ..`, or `take STATION "
+    "--leave`"
 )
 
 
@@ -224,16 +233,18 @@ class Checks:
 
 
 MORE_ROOM = (
-    "more room by --limits of report, follow or log-to-script, in a script by a line `limits <transactions> <events> "
-    "<readings> <changes>` before its `station` line"
+    "more room: in a store by `plan site SITE --events` or `--readings`, then `ocpp-board take STATION ID --why ..`; "
+    "in a script by a line `limits <transactions> <events> <readings> <changes>` before its `station` line"
 )
 REMEDIES = {
-    "TextTooLong": ("the message has more than 262,144 bytes", "a shorter message"),
+    "TextTooLong": ("the message has more than 262,144 bytes", CORRECT),
     "OutOfMemory": ("there was no memory", "run it where there is more, or with less in `limits`"),
     "Format": ("the payload is no object", "an object as the fourth element"),
     "ConflictingEvent": (
         "this transaction already has an event with this seqNo and another kind, time, EVSE or other readings",
-        "leave it out; or, if the stored one is wrong, void and erase it and send this one again",
+        "where the station used the id again for another session: `ocpp-board take STATION ID --as OTHER-ID --why ..` "
+        "of a store; where the stored one is wrong: void and erase it (`operate void`, `operate erase`), then send "
+        "this one again, or `take` it; else leave it out, or `take --leave`",
     ),
     "TooManyTransactions": (
         "the station has as many transactions as its limits allow",
@@ -253,11 +264,22 @@ REMEDIES = {
     ),
     "TooManyOpen": (
         "the station has as many transactions without an end as its site's quota allows",
-        "look why the station ends none; raise the quota by `plan quota` where it is right",
+        "look why the station ends none; raise the quota by `plan quota` where it is right, "
+        "then `ocpp-board take STATION --why ..`",
     ),
     "TooManyBytes": (
         "the station sent as much on this day (UTC) as its site's quota allows",
-        "look what the station sends; raise the quota by `plan quota` where it is right",
+        "look what the station sends; raise the quota by `plan quota` where it is right, then "
+        "`ocpp-board take STATION --why ..`",
+    ),
+    "TooManyMessages": (
+        "the station sent more messages a second, over a minute, than its site's quota allows",
+        "look what the station sends; raise the quota by `plan quota` where it is right, then "
+        "`ocpp-board take STATION --why ..`",
+    ),
+    "TooManyStrays": (
+        "as many texts of a station that no site has are kept as there may be",
+        "add the station by `plan station`, and have its log read again",
     ),
     "NoSuchEvent": (
         "the station has no event with this transaction id and this number",
@@ -286,7 +308,9 @@ def unknown_action(action: str) -> Said:
     near = difflib.get_close_matches(action, [*ACTIONS, *sorted(OTHER_ACTIONS)], 1, 0.6)
     return (
         f"the action {shown(action)} is none that is answered",
-        f"the nearest is {near[0]}" if near else "leave it out: it keeps nothing of a transaction",
+        f"the nearest is {near[0]}; {CORRECT}"
+        if near
+        else "leave it out by `ocpp-board take STATION --leave --why ..`: it keeps nothing of a transaction",
     )
 
 
@@ -301,14 +325,14 @@ def message_fault(text: str, name: str) -> Said:
     if name == "NotJson":
         return (
             "the message is no JSON, as a number with zeros in front, or is nested deeper than 127",
-            "JSON of RFC 8259",
+            CORRECT,
         )
     if name == "NotACall":
-        return not_a_call(frame), 'a CALL: [2,"<id>","<action>",{<payload>}]'
+        return not_a_call(frame), f'a call is [2,"<id>","<action>",{{<payload>}}]; {CORRECT}'
     if name == "MessageType":
         return (
             f"the message's type is {shown(str(frame[0]))}, and not 2, 3 or 4",
-            "the type 2 for a CALL",
+            f"a call has the type 2; {CORRECT}",
         )
     if name == "UnknownAction":
         return unknown_action(frame[2])
@@ -316,14 +340,32 @@ def message_fault(text: str, name: str) -> Said:
     other = ("a timestamp", "is no time") if is_moment else ("a member", "broke the check")
     failed = ((member, what) for fault, member, what in checks.failed if fault == name)
     member, what = next(failed, other)
-    remedy = "correct the station's message, or leave it out"
-    if is_moment and OUT_OF_RANGE in what:
-        remedy = UNSET_CLOCK
-    elif is_moment and NO_OFFSET in what:
-        remedy = MEND_TIME
-    elif member in checks.texts:
-        remedy = MEND_VALUE
-    return f"{member} {what}", remedy
+    return f"{member} {what}", find_remedy(name, member, what, member in checks.texts)
+
+
+def find_remedy(name: str, member: str, what: str, is_text: bool) -> str:
+    """What is advised about a member that is wrong."""
+    if name == "Moment" and OUT_OF_RANGE in what:
+        return MEND_LISTED if member.startswith("meterValue") else MEND_CLOCK
+    if name == "Moment" and NO_OFFSET in what:
+        return MEND_TIME
+    if is_text:
+        return MEND_VALUE
+    if name == "Decimal" and "is '-" in what:
+        return MEND_NEGATIVE
+    for fault, end, remedy in MENDED:
+        if name == fault and member.endswith(end):
+            return remedy
+    return CORRECT
+
+
+# The faults that mends take, by the end of the member.
+MENDED = (
+    ("Range", "unitOfMeasure.unit", MEND_UNIT),
+    ("Range", "transactionId", MEND_ID),
+    ("Range", "evse.id", MEND_EVSE),
+    ("TooManyReadings", "", MEND_PARTED),
+)
 
 
 def unread(text: str, fault: json.JSONDecodeError | RecursionError) -> Said:
@@ -334,7 +376,7 @@ def unread(text: str, fault: json.JSONDecodeError | RecursionError) -> Said:
         what = "the message is no JSON: nested too deep"
     else:
         what = f"the message is no JSON: {fault.msg} at character {fault.pos + 1}"
-    return what, "the message as the station sent it, on one line"
+    return what, CORRECT
 
 
 def not_a_call(frame: Any) -> str:

@@ -6,9 +6,11 @@ from collections.abc import Iterator
 from typing import Any, NamedTuple
 
 B = r"[ \t\r\n]*"
-TEXT = r'"((?:[^"\\]|\\.)*+)"'
+TEXT = r'"((?:[^"\\]++|\\.)*+)"'
 BLANKS = re.compile(B)
 ANSWER = re.compile(rf"{B}\[{B}[34]{B}[,\]]")
+# Frames of OCPP 2.1 that have no answer: CALLRESULTERROR and SEND.
+UNANSWERED = re.compile(rf"{B}\[{B}[56]{B},")
 CALL = re.compile(rf"{B}\[{B}2{B},{B}{TEXT}{B},{B}{TEXT}", re.DOTALL)
 # The name of a member as most are written, up to its value.
 PLAIN_NAME = re.compile(rf'"([^"\\\x00-\x1f]*)"{B}:{B}')
@@ -124,6 +126,11 @@ def expected(text: str, at: int, character: str) -> int:
 def is_answer(message: str) -> bool:
     """Whether the message is a CALLRESULT or a CALLERROR."""
     return ANSWER.match(message) is not None
+
+
+def is_unanswered(message: str) -> bool:
+    """Whether the message is a frame of OCPP 2.1 that gets no answer."""
+    return UNANSWERED.match(message) is not None
 
 
 def has_moment(action: str) -> bool:

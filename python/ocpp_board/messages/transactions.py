@@ -10,10 +10,14 @@ from ocpp_board.messages.bills import NOTHING, Details, details_of
 from ocpp_board.messages.meter_values import EXPORT, IMPORT, measurand_of
 from ocpp_board.messages.meter_values import mwh_of as mwh_of
 from ocpp_board.messages.signed_values import unlike_plain
-from ocpp_board.messages.times import seconds_of as seconds_of
+from ocpp_board.messages.times import seconds_of
 
 # What a measurand of active energy begins with, whether its readings count or not.
 ENERGY = "Energy.Active."
+# The measurands whose readings count.
+REGISTERS = (IMPORT, EXPORT)
+# Measurands that are compared with registers.
+INTERVAL, POWER = "Energy.Active.Import.Interval", "Power.Active.Import"
 # The unit of a value that names none.
 NO_UNIT: dict[str, Any] = {}
 # Seconds by which an event may lie after its receipt, and before it where it was not queued offline.
@@ -30,10 +34,22 @@ class Reading(NamedTuple):
     is_export: bool
 
 
+class Measured(NamedTuple):
+    """What a message measures beside the registers that count: power by time (seconds since 1970, and W), the sum of
+    interval values in mWh, and a unit that stands beside a value, where OCPP 2.0.1 has none."""
+
+    powers: tuple[tuple[float, float], ...] = ()
+    intervals: int = 0
+    unit: str = ""
+
+
+NOTHING_MEASURED = Measured()
+
+
 class Event(NamedTuple):
-    """An event as its message has it. `others`: what it has of energy that doesn't count; `is_far`: whether its time
-    is far from its receipt; `evse`: 0 if it names none; `unlike`: signed values that differ from their plain ones.
-    """
+    """An event. `others`: what it has of energy that doesn't count; `is_far`: whether its time is far from its receipt;
+    `evse`: 0 if it names none; `unlike`: signed values that differ from their plain ones; `details`: what it has for a
+    bill; `measured`: what it measures beside registers."""
 
     number: int
     kind: str
@@ -44,11 +60,22 @@ class Event(NamedTuple):
     reason: str
     evse: int = 0
     unlike: tuple[str, ...] = ()
-    # What it has for a bill.
     details: Details = NOTHING
-    # Which line of the script it is, and when that was received (seconds since 1970).
-    line: int = 0
-    received: float | None = None
+    measured: Measured = NOTHING_MEASURED
+
+
+class Beside(NamedTuple):
+    """What the message of an event has beside its number, kind, time, EVSE and counted readings."""
+
+    others: tuple[str, ...] = ()
+    is_offline: bool = False
+    reason: str = ""
+    unlike: tuple[str, ...] = ()
+    details: Details = NOTHING
+    measured: Measured = NOTHING_MEASURED
+
+
+NOTHING_BESIDE = Beside()
 
 
 def moment(seconds: float | None) -> datetime | None:
@@ -65,51 +92,51 @@ def plain(value: Any) -> str:
     return text if len(value) <= LONGEST_TEXT else text + ".."
 
 
-def event_of(payload: dict[str, Any], received: datetime | None, line: int = 0) -> Event:
-    """The event of a payload that passed the program's checks. `line`: which of the script it is."""
-    readings: list[Reading] = []
-    others: set[str] = set()
-    unlike: list[str] = []
+def read_beside(payload: dict[str, Any]) -> Beside:
+    """What a payload that passed the program's checks has beside what counts."""
+    others, unlike = set[str](), list[str]()
     info = payload["transactionInfo"]
     has_details = "idToken" in payload or "remoteStartId" in info
-    for one in payload.get("meterValue") or ():
-        taken = seconds_of(one["timestamp"])
-        for sampled in one["sampledValue"]:
-            if len(sampled) == 1 and "value" in sampled:
-                # Only a value: one of the import register.
-                readings.append(Reading(taken, mwh_of(sampled["value"], NO_UNIT), False))
-                continue
-            has_details = has_details or "signedMeterValue" in sampled
+    powers, intervals, unit = list[tuple[float, float]](), 0, ""
+    for value in payload.get("meterValue") or ():
+        for sampled in value["sampledValue"]:
             measurand = measurand_of(sampled)
-            if measurand in (IMPORT, EXPORT):
-                mwh = mwh_of(sampled["value"], sampled.get("unitOfMeasure") or NO_UNIT)
-                readings.append(Reading(taken, mwh, measurand == EXPORT))
-                if "signedMeterValue" in sampled and (said := unlike_plain(sampled, mwh)):
-                    unlike.append(said)
-            elif measurand.startswith(ENERGY):
+            is_counted, is_signed = measurand in REGISTERS, "signedMeterValue" in sampled
+            has_details = has_details or is_signed
+            if measurand.startswith(ENERGY) and not is_counted:
                 others.add(plain(measurand))
-    at = seconds_of(payload["timestamp"])
-    receipt = received.timestamp() if received else None
-    return Event(
-        int(payload["seqNo"]),
-        payload["eventType"],
-        at,
-        tuple(readings),
-        tuple(sorted(others)) if others else (),
-        is_far(at, receipt, payload.get("offline") is True),
+                if measurand == INTERVAL:
+                    intervals += max(read_mwh(sampled), 0)
+            elif measurand == POWER:
+                at, watts = seconds_of(value["timestamp"]), read_mwh(sampled) / 1_000
+                powers += [(at, watts)] if at is not None else []
+            if is_counted and sampled.get("unit") not in (None, "Wh"):
+                unit = plain(sampled["unit"])
+            if is_counted and is_signed:
+                mwh = mwh_of(sampled["value"], sampled.get("unitOfMeasure") or NO_UNIT)
+                unlike += filter(None, [unlike_plain(sampled, mwh)])
+    return Beside(
+        tuple(sorted(others)),
+        payload.get("offline") is True,
         plain(info.get("stoppedReason")),
-        evse_of(payload) if "evse" in payload else 0,
         tuple(unlike),
         details_of(payload) if has_details else NOTHING,
-        line,
-        receipt,
+        Measured(tuple(powers), intervals, unit)
+        if powers or intervals or unit
+        else NOTHING_MEASURED,
     )
 
 
-def evse_of(payload: dict[str, Any]) -> int:
-    """The EVSE that an event names; 0 if it names none."""
-    evse = payload.get("evse")
-    return int((evse or {}).get("id") or 0)
+def read_mwh(sampled: dict[str, Any]) -> int:
+    """A value that nothing checked in thousandths of its unit, kilo or not; 0 where it is no number."""
+    unit = sampled.get("unitOfMeasure")
+    try:
+        power = dict(unit) if isinstance(unit, dict) else NO_UNIT
+        if power.get("unit") == "kW":
+            power["unit"] = "kWh"
+        return mwh_of(sampled["value"], power)
+    except (ValueError, ArithmeticError, LookupError, TypeError, AttributeError):
+        return 0
 
 
 def is_far(at: float | None, receipt: float | None, is_offline: bool) -> bool:

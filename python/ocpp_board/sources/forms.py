@@ -42,7 +42,8 @@ seconds, milliseconds, microseconds or nanoseconds since 1970; a log without tim
 of no form, of OCPP 1.6 or of the CSMS are left out and counted."""
 
 PROTOCOL = "ocpp2.0.1"
-OURS = re.compile(r"(?:ocpp)?[ _/-]*v?2[._]0[._]1", re.IGNORECASE)
+# The versions whose messages are taken: what 2.1 has of 2.0.1 is the same.
+OURS = re.compile(r"(?:ocpp)?[ _/-]*v?2[._](?:0[._]1|1(?:[._]0)?)", re.IGNORECASE)
 RIGHT, LEFT = "\N{RIGHTWARDS ARROW}", "\N{LEFTWARDS ARROW}"
 ARROWS = rf"[-=~]{{1,3}}>{{1,2}}|<{{1,2}}[-=~]{{1,3}}|>{{2,3}}|<{{2,3}}|{RIGHT}|{LEFT}"
 # The names by which logs call the other side of a station.
@@ -58,12 +59,15 @@ class Entry(NamedTuple):
     time: str | None
     message: str
     is_stations: bool = True
-    # It is of another version of OCPP.
-    is_old: bool = False
+    # Which other version of OCPP it is of; empty where it is of one that is taken.
+    version: str = ""
 
 
-# A line of another version.
-OLD = Entry(None, "", None, "", is_stations=False, is_old=True)
+def make_old(version: Any, station: Any, time: str | None = None, site: Any = None) -> Entry:
+    """A line of another version."""
+    names = (name if isinstance(name, str) else "" for name in (station, site))
+    name, of_site = names
+    return Entry(of_site or None, name, time, "", False, str(version))
 
 
 class Form(Protocol):
@@ -92,6 +96,9 @@ def find_text(of: Members, field: str) -> str:
 
 def require_text(entry: dict[str, Any], field: str, what: str = "") -> str:
     """A member that has to be a text. Raises Refused where it is not. `what`: of what it is the field."""
+    value = entry.get(field)
+    if isinstance(value, str):
+        return value
     value = find_member(entry, field)
     if isinstance(value, str):
         return value
@@ -112,7 +119,7 @@ def find_time(entry: dict[str, Any], field: str) -> str | None:
 
 
 def is_old(protocol: Any) -> bool:
-    """Whether a version of OCPP that a log names is another than 2.0.1; where it names none it is not."""
+    """Whether a version of OCPP that a log names is none that is taken; where it names none it is not."""
     return bool(protocol) and not OURS.fullmatch(str(protocol))
 
 
@@ -137,8 +144,10 @@ class JsonForm(NamedTuple):
         """What an object says; its site if the fields have one."""
         of = members_of(text) if self.is_json_message else Members(object_of(text), {})
         entry = of.values
-        if self.protocol and is_old(find_member(entry, self.protocol)):
-            return OLD
+        if self.protocol and is_old(version := find_member(entry, self.protocol)):
+            site = find_member(entry, self.site) if self.has_site else None
+            time = find_time(entry, self.time)
+            return make_old(version, find_member(entry, self.station), time, site)
         site = require_text(entry, self.site, "site") if self.has_site else None
         station = require_text(entry, self.station, "station")
         at = find_time(entry, self.time)
@@ -169,8 +178,8 @@ class RegexForm:
         if match is None:
             return None
         groups = match.groupdict()
-        if is_old(groups.get("protocol")):
-            return OLD
+        if is_old(version := groups.get("protocol")):
+            return make_old(version, groups["station"], groups.get("time"), groups.get("site"))
         if groups["station"] is None or groups["message"] is None:
             return None
         way = groups.get("direction")
@@ -184,7 +193,7 @@ class ArrowForm:
 
     LINE = re.compile(
         rf"(?:.*? )??(?P<from>[^ :]*[^ :=~<>-])?:? ?(?P<arrow>{ARROWS}) ?(?P<to>[^ :\[]+)?:? ?"
-        r"(?P<message>\[ ?[234] ?,.*)",
+        r"(?P<message>\[ ?[2-6] ?,.*)",
         re.DOTALL,
     )
 
@@ -252,7 +261,7 @@ class CitrineForm:
         values = row.values
         protocol, origin = values.get("protocol") or PROTOCOL, require_text(values, "origin")
         if is_old(protocol):
-            return OLD
+            return make_old(protocol, values.get("stationId"), find_time(values, "timestamp"))
         if origin not in ("cs", "csms"):
             raise Refused("'origin' is neither cs nor csms", shown(origin))
         is_json = isinstance(values.get("message"), (dict, list))
@@ -285,7 +294,7 @@ class CitrineCsvForm:
         if cells == self.heads:
             return None  # Another file of the same columns begins.
         if len(cells) != len(self.heads):
-            raise Refused("a row has not as many cells as the first line", str(len(cells)))
+            raise Refused("a row has more or fewer cells than the first line", str(len(cells)))
         return CitrineForm.read_row(Members(dict(zip(self.heads, cells)), {}))
 
 
@@ -303,7 +312,7 @@ class MaeveForm:
         if match is None:
             return None
         if is_old(match["protocol"]):
-            return Entry(None, match["station"], None, "", is_stations=False, is_old=True)
+            return make_old(match["protocol"], match["station"])
         frame = self.make_frame(members_of(match["object"]))
         return Entry(None, match["station"], None, frame, match["way"] == "in")
 

@@ -2,17 +2,24 @@
 
 import re
 from datetime import datetime, timezone
+from functools import lru_cache
 from typing import NamedTuple
 
 from ocpp_board.escapes import shown
-from ocpp_board.limits import FIRST_MOMENT, LONGEST_LINE, LONGEST_LOG_LINE, PAST_MOMENTS
+from ocpp_board.limits import (
+    FIRST_MOMENT,
+    LONGEST_LINE,
+    LONGEST_LOG_LINE,
+    PAST_MOMENTS,
+    is_name,
+)
 from ocpp_board.messages.message_faults import OLD_ACTIONS
 from ocpp_board.messages.named import find_named
-from ocpp_board.messages.texts import CALL, Refused, has_moment, is_answer
+from ocpp_board.messages.texts import CALL, Refused, has_moment, is_answer, is_unanswered
 from ocpp_board.messages.times import seconds_of
-from ocpp_board.records import Message, Untaken
+from ocpp_board.records import LeftOut, Message, Untaken
 from ocpp_board.sources.forms import Entry, Shape
-from ocpp_board.sources.mend import Mender
+from ocpp_board.sources.mend import Mended, Mender
 from ocpp_board.sources.stations import NOT_IN, StationPlan
 
 # Seconds since 1970, or thousandths, millionths or billionths of them, and digits of the greatest whole seconds.
@@ -23,8 +30,12 @@ PLAIN = re.compile(
     r"20[0-9]{2}-[0-9]{2}-[0-9]{2}T(?:[01][0-9]|2[0-3]):[0-5][0-9]:[0-5][0-9](?:\.[0-9]+)?Z"
 )
 SECONDS = len("2026-03-01T10:00:00")
-# Bytes that a character has at most, and what stands before a message in the line of a script.
+# Times that have their moments kept, since many lines come in a second.
+KEPT_MOMENTS = 1_024
+# Bytes that a character has at most, and what is before a message in the line of a script.
 MOST_BYTES, FRONT = 4, len("deliver  ") + 48
+# The version of messages of actions that only OCPP 1.6 has, and characters of a version that are kept.
+OLD_VERSION, LONGEST_VERSION = "ocpp1.6", 40
 # Characters of a line that can't be taken which are kept.
 LONGEST_TEXT = 4_096
 # What is to be done about a line that is not taken, by how the mistake begins.
@@ -50,6 +61,13 @@ class Read(NamedTuple):
     has_moment: bool = False
     # What is wrong with the line, though its message is taken.
     note: Refused | None = None
+    # The further events of a message that was parted.
+    more: tuple[Message, ...] = ()
+
+    @property
+    def messages(self) -> tuple[Message, ...]:
+        """All messages of the line."""
+        return (self.message, *self.more) if self.message else ()
 
 
 BLANK, OTHER, OLD, ANSWERS, SENT = map(Read, ("blank", "other", "old", "answers", "sent"))
@@ -62,6 +80,7 @@ def read_epoch(digits: str, part: str | None) -> datetime:
     return datetime.fromtimestamp(seconds, timezone.utc)
 
 
+@lru_cache(KEPT_MOMENTS)
 def read_moment(text: str, is_utc: bool) -> datetime:
     """The moment of a time in whole seconds. `is_utc`: one without an offset is UTC.
 
@@ -122,6 +141,8 @@ class LogReader:
         self.counts, self.mender = dict.fromkeys(self.KINDS, 0), Mender(plan.asked.mend)
         # What the line says that is read, as far as it was understood.
         self.entry: Entry | None = None
+        # Stations whose messages are left out for their version.
+        self.left_out: dict[tuple[str, str], LeftOut] = {}
 
     def read(self, line: bytes | None, number: int = 0) -> Read:
         """What a line becomes; None is one that is too long. Raises Refused."""
@@ -151,27 +172,45 @@ class LogReader:
     def read_entry(self, entry: Entry, number: int) -> Read:
         """What a line becomes that says this: a message where a station sent a call. Raises Refused."""
         call = CALL.match(entry.message)
-        if entry.is_old or call and call[2] in OLD_ACTIONS:
+        if entry.version or call and call[2] in OLD_ACTIONS:
+            self.note_left_out(entry)
             return OLD
         site, station = self.plan.place(entry)
-        is_answered = call is None and is_answer(entry.message)
+        is_answered = call is None and (is_answer(entry.message) or is_unanswered(entry.message))
         if is_answered or not entry.is_stations:
             self.plan.admit(site, station)
             return ANSWERS if is_answered else SENT
         needs_time = call is not None and has_moment(call[2])
-        text, mends = entry.message, tuple[str, ...]()
+        moment, note = self.find_moment(entry)
         if site in self.mender.mends:
-            received, _ = self.find_moment(entry)
-            text, mends = self.mender.mend(site, station, text, received)
-        text = check_text(station, text)
+            found = self.mender.mend(site, station, entry.message, moment)
+        else:
+            found = Mended((entry.message,))
+        texts = [check_text(station, text) for text in found.texts]
         self.plan.admit(site, station)
-        moment, note = (None, None)
-        if needs_time or self.has_times:
-            moment, note = self.find_moment(entry)
-        origin = f"{self.name}:{number}"
-        came = entry.message if mends else ""
-        message = Message(station, text, moment, origin, site or None, ",".join(mends), came)
-        return Read("messages", message, needs_time, note)
+        if not needs_time and not self.has_times:
+            moment = note = None
+        first = Message(station, texts[0], moment, f"{self.name}:{number}", site or None)
+        if not found.faults:
+            return Read("messages", first, needs_time, note)
+        mended = first._replace(mends=",".join(found.faults), came=entry.message)
+        more = tuple(mended._replace(text=text) for text in texts[1:])
+        return Read("messages", mended, needs_time, note, more)
+
+    def note_left_out(self, entry: Entry) -> None:
+        """Notes a station whose message is left out for its version."""
+        if not is_name(entry.station):
+            return
+        version, at = entry.version or OLD_VERSION, self.find_moment(entry)[0]
+        site = self.plan.site_of.get(entry.station) or entry.site or ""
+        one = LeftOut(entry.station, version[:LONGEST_VERSION], site, at, at)
+        had = self.left_out.get((one.station, one.version))
+        self.left_out[one.station, one.version] = one if had is None else had.join(one)
+
+    def take_left_out(self) -> list[LeftOut]:
+        """The stations that were left out since the last call."""
+        found, self.left_out = [*self.left_out.values()], {}
+        return found
 
     def find_moment(self, entry: Entry) -> tuple[datetime | None, Refused | None]:
         """The moment of a line, or what is wrong with its time. No message is left out for its time."""

@@ -264,22 +264,22 @@ def add_rules(parser: argparse.ArgumentParser) -> None:
             "period",
             read_period,
             "SECONDS",
-            "the settlement period of a site's boards, or of all sites that are not named so: "
+            "the settlement period of SITE, or of every other site: "
             "300, 900, 1800 or 3600 seconds (default: 900)",
         ),
         (
             "order",
             partial(read_word, ORDERS),
             "WORD",
-            "the order of a site's readings, or of all sites that are not named so: sequence, the numbers of their "
+            "the order of readings of SITE, or of every other site: sequence, the numbers of their "
             "events, or moment, their own times, for stations that list readings again (default: moment)",
         ),
         (
             "settle",
             partial(read_word, RULES),
             "WORD",
-            "the period in which a difference of a site counts, or of all sites that are not named so: later, that of "
-            "its later reading; closing, the one that this reading closes; or even, each period between its readings "
+            "the period in which a difference of SITE counts, or of every other site: later, that of its later "
+            "reading; closing, the one that this reading closes; or even, each period between its readings "
             "by its share of the time (default: even)",
         ),
     ):

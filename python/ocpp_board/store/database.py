@@ -9,7 +9,7 @@ import sqlite3
 from collections import namedtuple
 from collections.abc import Callable, Iterable, Iterator, Mapping, Sequence
 from contextlib import contextmanager
-from datetime import date, datetime, timezone
+from datetime import date, datetime, timedelta, timezone
 from functools import lru_cache, wraps
 from pathlib import Path
 from typing import Any, ParamSpec, TypeVar
@@ -38,8 +38,29 @@ SOURCES = (
 )
 # How many partitions PostgreSQL's tables by station have.
 PARTITIONS = 16
+# How full PostgreSQL makes the pages of tables whose rows are written again: a row that stays on its page needs no
+# new entries in indexes.
+ROOM = {"session": 70, "part": 90, "finding": 90}
 # Seconds that a writer waits for another one.
 PATIENCE = 60
+# When a network that is cut counts as such, for this side, where the store's name says nothing of it, and for the
+# server, which holds locks for a connection as long as it knows no better.
+NETWORK = {
+    "connect_timeout": 10,
+    "keepalives_idle": 5,
+    "keepalives_interval": 3,
+    "keepalives_count": 3,
+    "tcp_user_timeout": 10_000,
+}
+ONCE = """
+set plan_cache_mode = force_generic_plan; set enable_hashjoin = off; set enable_mergejoin = off;
+set enable_seqscan = off
+"""
+# To compile a plan over all partitions takes far longer than to run it.
+SETTINGS = """
+set time zone 'UTC'; set jit = off; set tcp_keepalives_idle = 10; set tcp_keepalives_interval = 5;
+set tcp_keepalives_count = 3; set tcp_user_timeout = 30000
+"""
 MARK = re.compile(r"/\*(sqlite|postgresql) (.*?)\*/", re.DOTALL)
 # A text in quotes, in which nothing is a comment, or a comment.
 COMMENT = re.compile(r"('(?:[^'])*')|--[^\n]*")
@@ -50,6 +71,8 @@ MOMENTS = {"at", "starts", "since", "until", "received", "began", "ended"}
 DAYS = {"day", "first_settled_day"}
 FLAGS = {"complete", "measured", "numbers_missing", "on_board", "whole"}
 
+EPOCH, HOUR = datetime(1970, 1, 1, tzinfo=timezone.utc), timedelta(hours=1)
+
 Row = Any  # A named tuple of a statement's columns.
 P = ParamSpec("P")
 T = TypeVar("T")
@@ -59,6 +82,16 @@ Values = Mapping[str, Any]
 def is_moment(column: str) -> bool:
     """Whether a column has moments."""
     return column in MOMENTS or column.endswith(("_at", "_until"))
+
+
+def count_days(at: datetime) -> int:
+    """The day of a moment (UTC), in days since 1970, as `last_day` has it."""
+    return (at - EPOCH).days
+
+
+def count_hours(at: datetime) -> int:
+    """The hour of a moment, in hours since 1970, as `changed_hour` has it."""
+    return (at - EPOCH) // HOUR
 
 
 @lru_cache(65_536)
@@ -120,6 +153,9 @@ class Database:
     def close(self) -> None:
         """Closes the store."""
         raise NotImplementedError
+
+    def plan_once(self) -> None:
+        """Has statements that name keys planned once: they look each key up in an index, however many there are."""
 
     def fetch_one(self, statement: str, **values: Any) -> Row | None:
         """The first row of a statement; None where it has none."""
@@ -186,7 +222,6 @@ class SqliteDatabase(Database):
             self.connection.execute("pragma temp_store = memory")
         except sqlite3.Error as fault:
             raise StoreError(f"{path} can't be opened as a store: {fault}") from None
-        self.connection.row_factory = make_row
         self.path = path
 
     @report_faults
@@ -200,24 +235,23 @@ class SqliteDatabase(Database):
         self.connection.executemany(statement, values)
 
     @report_faults
-    @report_faults
-    def insert_rows(self, statement: str, rows: Iterable[tuple[Any, ...]]) -> None:
+    def execute_rows(self, statement: str, rows: Iterable[tuple[Any, ...]]) -> None:
         """Runs a statement for each of these rows, by the places of its marks `?`."""
         self.connection.executemany(statement, rows)
 
     @report_faults
     def fetch(self, statement: str, **values: Any) -> list[Row]:
         """The rows of a statement."""
-        return self.connection.execute(statement, values).fetchall()
+        return list(read_rows(self.connection.execute(statement, values)))
 
     def fetch_each(self, statement: str, values: Iterable[Values]) -> Iterator[list[Row]]:
         """The rows of a statement for each of these values."""
         for one in values:
-            yield self.connection.execute(statement, one).fetchall()
+            yield list(read_rows(self.connection.execute(statement, one)))
 
     def stream(self, statement: str, **values: Any) -> Iterator[Row]:
         """The rows of a statement one by one."""
-        yield from self.connection.execute(statement, values)
+        yield from read_rows(self.connection.execute(statement, values))
 
     @contextmanager
     def transaction(self) -> Iterator[None]:
@@ -255,10 +289,8 @@ adapt_values()
 
 
 @lru_cache(1_024)
-def find_readers(
-    columns: tuple[str, ...]
-) -> tuple[Any, tuple[tuple[int, Callable[[Any], Any]], ...]]:
-    """The class of a statement's rows, and what reads the values of which columns."""
+def find_maker(columns: tuple[str, ...]) -> Callable[[tuple[Any, ...]], Row]:
+    """What makes a statement's rows of SQLite's values: moments, days and flags as Python has them."""
     readers: list[tuple[int, Callable[[Any], Any]]] = []
     for place, name in enumerate(columns):
         if is_moment(name):
@@ -267,19 +299,27 @@ def find_readers(
             readers.append((place, date.fromisoformat))
         elif name in FLAGS:
             readers.append((place, bool))
-    return namedtuple("Row", columns, rename=True), tuple(readers)
-
-
-def make_row(cursor: sqlite3.Cursor, values: tuple[Any, ...]) -> Row:
-    """A row of SQLite, its moments, days and flags as Python has them."""
-    row, readers = find_readers(tuple(one[0] for one in cursor.description))
+    name_columns: Any = namedtuple
+    make: Callable[[Iterable[Any]], Row] = name_columns("Row", columns, rename=True)._make
     if not readers:
-        return row._make(values)
-    found = list(values)
-    for place, read in readers:
-        if found[place] is not None:
-            found[place] = read(found[place])
-    return row._make(found)
+        return make
+
+    def read(values: tuple[Any, ...]) -> Row:
+        found = list(values)
+        for place, read_value in readers:
+            value = found[place]
+            if value is not None:
+                found[place] = read_value(value)
+        return make(found)
+
+    return read
+
+
+def read_rows(cursor: sqlite3.Cursor) -> Iterable[Row]:
+    """The rows of a statement that was run."""
+    if cursor.description is None:
+        return ()
+    return map(find_maker(tuple([one[0] for one in cursor.description])), cursor)
 
 
 class PostgresDatabase(Database):
@@ -294,12 +334,13 @@ class PostgresDatabase(Database):
                 "a store in PostgreSQL needs psycopg 3 (Debian: apt-get install python3-psycopg)"
             )
         try:
+            more: dict[str, Any] = {
+                name: value for name, value in NETWORK.items() if f"{name}=" not in url
+            }
             self.connection = psycopg.connect(
-                url, autocommit=True, row_factory=namedtuple_row, prepare_threshold=2
+                url, autocommit=True, row_factory=namedtuple_row, prepare_threshold=2, **more
             )
-            self.connection.execute("set time zone 'UTC'")
-            # To compile a plan over all partitions takes far longer than to run it.
-            self.connection.execute("set jit = off")
+            self.connection.execute(SETTINGS)
         except psycopg.Error as fault:
             raise StoreAway(f"the store can't be reached: {' '.join(str(fault).split())}") from None
         self.url = url
@@ -338,6 +379,11 @@ class PostgresDatabase(Database):
             cursor.itersize = 5_000
             cursor.execute(write_postgresql(statement), values)
             yield from cursor
+
+    @report_faults
+    def plan_once(self) -> None:
+        """To plan a statement over all partitions takes longer than to run it for some keys."""
+        self.connection.execute(ONCE)
 
     @contextmanager
     def transaction(self) -> Iterator[None]:
@@ -424,7 +470,7 @@ def make_schema(database: SqliteDatabase | PostgresDatabase) -> None:
                 for number in range(PARTITIONS):
                     database.execute(
                         f"create table {table}_{number} partition of {table} for values with "
-                        f"(modulus {PARTITIONS}, remainder {number})"
+                        f"(modulus {PARTITIONS}, remainder {number}) with (fillfactor = {ROOM.get(table, 100)})"
                     )
         database.execute(
             "insert into store (version, made_at) values (:version, :now)",

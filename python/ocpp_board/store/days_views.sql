@@ -55,6 +55,22 @@ join closing o on o.site = p.site and o.closing = p.closing - 1 and p.starts < o
 join closed_session s
     on s.station = p.station and s.transaction_id = p.transaction_id and s.closing = p.closing;
 
+-- What each closing froze: how many sessions it saw, how many of these are settled as complete and by rule, by how much
+-- it changed what is settled of periods, and how much of that are corrections.
+create view closing_sum as
+select n.site, n.closing, n.day, n.until, n.at, n.who, n.period, n.reading_order, n.settle, n.zone,
+    (select count(*) from closed_session c where c.site = n.site and c.closing = n.closing) as sessions,
+    (select count(*) from closed_session c
+        where c.site = n.site and c.closing = n.closing and c.settled = 'complete') as complete_sessions,
+    (select count(*) from closed_session c
+        where c.site = n.site and c.closing = n.closing and c.settled = 'rule') as rule_sessions,
+    (select cast(coalesce(sum(p.up - p.down - p.export_up + p.export_down), 0) as bigint) from closed_part p
+        where p.site = n.site and p.closing = n.closing) as net,
+    (select count(*) from correction r where r.site = n.site and r.closing = n.closing) as corrections,
+    (select cast(coalesce(sum(r.net), 0) as bigint) from correction r
+        where r.site = n.site and r.closing = n.closing) as corrected
+from closing n;
+
 -- A session's energy by the ledger, the declared adjustments, and both together.
 create view adjusted_session as
 select s.site, s.station, s.transaction_id, s.up - s.down as imported, s.export_up - s.export_down as exported,
@@ -78,8 +94,9 @@ from (
     select s.site, s.station, s.transaction_id, f.kind, f.detail, s.up, s.down, s.export_up, s.export_down
     from session s join all_finding f on f.station = s.station and f.transaction_id = s.transaction_id
     where f.kind in (
-        'power that cannot be', 'signed value differs', 'register reset or exchanged', 'register falls',
-        'transaction id used again')
+        'power that cannot be', 'more power than before', 'signed value differs', 'value in another unit',
+        'register reset or exchanged', 'register falls', 'energy differs by order', 'begin listed behind the end',
+        'transaction id used again', 'sessions overlap', 'two EVSEs with one meter')
     union all
     select s.site, s.station, s.transaction_id, 'negative energy', '', s.up, s.down, s.export_up, s.export_down
     from session s join adjusted_session a on a.station = s.station and a.transaction_id = s.transaction_id
@@ -95,12 +112,12 @@ left join release r on r.station = h.station and r.transaction_id = h.transactio
         where l.station = h.station and l.transaction_id = h.transaction_id and l.kind = h.kind);
 
 -- A session as a bill has it: its energy by the ledger, the adjustments and their sum, its state, how many findings and
--- how many holds it has. `measured`: whether two moments have a reading.
+-- how many holds it has. `energy_measured`: whether readings say its energy (yes, part, no), from when to when.
 create view bill as
 select s.site, s.station, s.transaction_id, s.sent_id, s.evse, s.began, s.ended,
     coalesce(s.began, s.first_at) as at, s.complete, s.missing, a.imported, a.exported, a.adjusted_import,
     a.adjusted_export, a.import_sum, a.export_sum, a.adjustments, t.state, t.settled,
-    s.reading_moments > 1 as measured,
+    s.energy_measured, s.first_reading_at, s.last_reading_at,
     coalesce(f.times, 0) as findings, coalesce(h.times, 0) as holds
 from session s
 join adjusted_session a on a.station = s.station and a.transaction_id = s.transaction_id

@@ -10,10 +10,11 @@ from ocpp_board.energies import kwh
 from ocpp_board.errors import UsageError
 from ocpp_board.store.database import Database, Row
 from ocpp_board.store.plan import Author
+from ocpp_board.store.values import estimate_session
 
 SESSION = """
-select site, station, transaction_id, evse, complete, up, down, export_up, export_down, first_at, last_at,
-    first_register, last_register
+select site, station, transaction_id, evse, complete, up, down, export_up, export_down, began, ended, first_at, last_at,
+    first_register, last_register, first_reading_at, last_reading_at
 from session where station = :station and transaction_id = :transaction_id
 """
 AT_EVSE = """
@@ -55,6 +56,11 @@ select s.station, s.transaction_id, s.state, s.missing, s.gaps, s.last_at, s.up 
 left join rule_settled r on r.station = s.station and r.transaction_id = s.transaction_id
 where s.site = :site and s.events > 0 and not s.complete and s.last_at < :before and r.station is null
 order by s.last_at, s.station, s.transaction_id
+"""
+BY_RULE = """
+select s.station, s.transaction_id, s.state, s.up - s.down as imported, r.at, r.who, r.why
+from rule_settled r join session s on s.station = r.station and s.transaction_id = r.transaction_id
+where r.site = :site order by r.at, r.station, r.transaction_id
 """
 SETTLE_BY_RULE = """
 insert into rule_settled (station, transaction_id, site, at, who, why)
@@ -135,6 +141,21 @@ def declare_estimate(
     )
 
 
+def declare_by_values(store: Database, station: str, transaction: str) -> Adjustment:
+    """The adjustment for a session that took what MeterValues of its EVSE say, from its start to its end. Raises
+    UsageError where these do not say it."""
+    session = find_session(store, station, transaction)
+    found = estimate_session(store, session)
+    if found is None:
+        raise UsageError(
+            f"no MeterValues of EVSE {session.evse} of {station} are around the start and the end of {transaction!r}; "
+            "name the register by --register, or the energy by `adjust credit`"
+        )
+    mwh, detail = found
+    had = session.up - session.down
+    return Adjustment(session, "estimate", session.last_at, mwh - had, 0, detail)
+
+
 def declare_credit(
     store: Database, station: str, transaction: str, imported: int, exported: int
 ) -> Adjustment:
@@ -187,6 +208,11 @@ def release(store: Database, station: str, transaction: str, author: Author) -> 
 def list_open(store: Database, site: str, before: datetime) -> list[Row]:
     """The sessions that are not complete, of which nothing is later than a moment, and that nobody settled by rule."""
     return store.fetch(OPEN, site=site, before=before)
+
+
+def list_by_rule(store: Database, site: str) -> list[Row]:
+    """The sessions of a site that somebody settled by rule."""
+    return store.fetch(BY_RULE, site=site)
 
 
 def settle_by_rule(store: Database, site: str, before: datetime, author: Author) -> list[Row]:

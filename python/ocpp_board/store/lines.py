@@ -2,27 +2,40 @@
 
 import json
 from collections import OrderedDict
-from collections.abc import Iterable, Sequence
+from collections.abc import Iterable, Iterator, Sequence
 from dataclasses import dataclass, field
-from datetime import datetime, timezone
+from datetime import datetime, timedelta, timezone
 from typing import Any, NamedTuple
 
 from ocpp_board.errors import StoreError
-from ocpp_board.records import Line
-from ocpp_board.store.database import Database, Row, SqliteDatabase
+from ocpp_board.records import LeftOut, Line
+from ocpp_board.store.database import (
+    EPOCH,
+    Database,
+    Row,
+    SqliteDatabase,
+    choose,
+    count_days,
+    count_hours,
+    write_moment,
+)
 
 SESSION = """lines evse events voided first_number last_number complete missing gaps up down export_up export_down state
 began ended first_at last_at first_register last_register first_export_register last_export_register stopped_reason
 sent_id token token_type remote_start_id signed holes reading_moments boundary_moments first_boundary_at
-received_until""".split()
+received_until energy_measured first_reading_at last_reading_at peak_w""".split()
 # The columns of a line, in the order of `records.Line`.
 LINE = "station transaction_id number line received who why origin".split()
-# Those columns of a transaction that have what its station sent.
-SENT = ("stopped_reason", "sent_id", "token", "token_type", "remote_start_id", "signed")
+# The places of those columns of a transaction that have what its station sent.
+SENT = [
+    SESSION.index(name)
+    for name in ("stopped_reason", "sent_id", "token", "token_type", "remote_start_id", "signed")
+]
+LAST_AT = SESSION.index("last_at")
 PART = "starts up down export_up export_down on_board measured shared numbers_missing".split()
 FINDING = "kind times first_at detail".split()
 OF_SESSION = "station = :station and transaction_id = :transaction"
-# Texts of a station and a cause that are kept each; further ones are one row.
+# Texts of a station that sends too much which are kept each; further ones are one row.
 MOST_TEXTS = 1_000
 # The digest of that row, and what it says.
 MANY, ONE_OF_MANY = "many", "one of many"
@@ -30,15 +43,12 @@ MANY, ONE_OF_MANY = "many", "one of many"
 LONGEST_ORIGINS = 4_000
 
 
-def insert_text(table: str, keys: Sequence[str], columns: Sequence[str]) -> str:
-    """A statement that inserts a row, or writes its other columns where it is there."""
-    names = [*keys, *columns]
-    changes = ", ".join(f"{name} = excluded.{name}" for name in columns)
-    return f"""insert into {table} ({', '.join(names)}) values ({', '.join(f':{name}' for name in names)})
-    on conflict ({', '.join(keys)}) do update set {changes}"""
-
-
 KEYS = ("station", "transaction_id")
+MICROSECOND = timedelta(microseconds=1)
+# When a row of `session` was changed, as a whole number where the database has one, which costs little to read.
+CHANGED = (
+    "/*sqlite changed_at*/ /*postgresql cast(extract(epoch from changed_at) * 1000000 as bigint)*/"
+)
 # Transactions whose rows are written at once.
 WRITTEN_AT_ONCE = 1_000
 # A text that came again is counted, but for one of a place that was read before.
@@ -61,6 +71,11 @@ values (:station, :cause, :digest, :site, :transaction, :number, :sent_id, :sent
 """ + COUNT_AGAIN.format(
     table="refusal", key="cause, digest", most=LONGEST_ORIGINS
 )
+# What becomes of a refused text that waits.
+DECIDE = """
+update refusal set decision = :decision, decided_at = :at, decided_by = :who, decided_why = :why
+where station = :station and digest = :digest and decision = ''
+"""
 ADD_STRAY = """
 insert into stray (station, digest, site, transaction_id, number, sent_id, text, received, origin, origins, first_at,
     last_at)
@@ -72,6 +87,14 @@ ADD_MENDED = """
 insert into mended (station, digest, transaction_id, number, at, mends, came, origin)
 values (:station, :digest, :transaction, :number, :at, :mends, :came, :origin)
 on conflict (station, digest) do nothing
+"""
+ADD_LEFT_OUT = """
+insert into left_out (station, version, site, first_at, last_at) values (:station, :version, :site, :first_at, :last_at)
+on conflict (station, version) do update set
+    first_at = /*sqlite min*/ /*postgresql least*/ (coalesce(left_out.first_at, excluded.first_at),
+        coalesce(excluded.first_at, left_out.first_at)),
+    last_at = /*sqlite max*/ /*postgresql greatest*/ (coalesce(left_out.last_at, excluded.last_at),
+        coalesce(excluded.last_at, left_out.last_at))
 """
 ADD_DEED = """
 insert into deed (station, transaction_id, number, word, at, origin, who, why, outcome, name, count)
@@ -90,6 +113,8 @@ class Held(NamedTuple):
     refusals: list[Row]
     # What else is stored of it, where that is known.
     kept: "Kept | None" = None
+    # The order of its readings, where that is not the site's.
+    own_order: str = ""
 
 
 def name_keys(keys: Iterable[Key]) -> list[dict[str, str]]:
@@ -97,20 +122,22 @@ def name_keys(keys: Iterable[Key]) -> list[dict[str, str]]:
     return [{"station": station, "transaction": transaction} for station, transaction in keys]
 
 
-def find_sites(store: Database, stations: Sequence[str]) -> dict[str, str]:
-    """The sites of those of these stations that are planned."""
-    asked = "select station, site from station where station = :station"
+def find_stations(store: Database, stations: Sequence[str]) -> dict[str, Row]:
+    """Those of these stations that are planned: the site and the power of each."""
+    asked = "select station, site, most_kw from station where station"
     if not stations:
         return {}
     if store.kind == "postgresql":
-        rows = store.fetch(
-            "select station, site from station where station = any(:stations)",
-            stations=list(stations),
-        )
+        rows = store.fetch(f"{asked} = any(:stations)", stations=list(stations))
     else:
-        some = store.fetch_each(asked, [{"station": station} for station in stations])
+        some = store.fetch_each(f"{asked} = :station", [{"station": one} for one in stations])
         rows = [row for one in some for row in one]
-    return {row.station: row.site for row in rows}
+    return {row.station: row for row in rows}
+
+
+def find_sites(store: Database, stations: Sequence[str]) -> dict[str, str]:
+    """The sites of those of these stations that are planned."""
+    return {station: row.site for station, row in find_stations(store, stations).items()}
 
 
 def fetch_keyed(
@@ -120,9 +147,9 @@ def fetch_keyed(
     follows the condition."""
     if not keys:
         return []
-    if store.kind == "sqlite":
+    if store.kind == "sqlite" or len(keys) == 1:
         asked = f"select {columns} from {table} where {OF_SESSION} {more}"
-        return list(store.fetch_each(asked, name_keys(keys)))
+        return [store.fetch(asked, **one) for one in name_keys(keys)]
     found: list[list[Row]] = [[] for _ in keys]
     for row in store.fetch(
         f"""select k.place, t.* from json_to_recordset(:keys) as k (place int, s text, t text) cross join lateral (
@@ -145,10 +172,14 @@ def list_stations(keys: Iterable[Key]) -> list[str]:
     return sorted({key[0] for key in keys})
 
 
-def find_session_sites(store: Database, keys: Sequence[Key]) -> dict[Key, str]:
-    """The sites of those of these transactions that are stored."""
-    found = fetch_keyed(store, "site", "session", keys)
-    return {key: rows[0].site for key, rows in zip(keys, found) if rows}
+def find_session_sites(
+    store: Database, keys: Sequence[Key], warm: "Warm | None" = None
+) -> set[str]:
+    """The sites of those of these transactions that are stored. `warm`: what this process stored last."""
+    kept: dict[Key, Kept] = {} if warm is None else warm.kept
+    found = fetch_keyed(store, "site", "session", [key for key in keys if key not in kept])
+    known = {kept[key].site for key in keys if key in kept}
+    return known | {row.site for one in found for row in one}
 
 
 def hold_sessions(
@@ -158,37 +189,53 @@ def hold_sessions(
     stored of them. `sites`: those of the ones that are not stored; `warm`: what this process stored last.
     """
     keys = sorted(sites)
-    if store.kind == "postgresql" and keys:
-        store.execute(
-            """insert into session (station, transaction_id, site) select s, t, site
-            from json_to_recordset(:keys) as k (s text, t text, site text)
-            on conflict (station, transaction_id) do nothing""",
-            keys=json.dumps([{"s": key[0], "t": key[1], "site": sites[key]} for key in keys]),
-        )
-    lock = "for update" if store.kind == "postgresql" else ""
-    had = fetch_keyed(store, "site, lines, changed_at", "session", keys, lock)
+    had = lock_rows(store, sites, warm)
     kept = {
         key: one
         for key, rows in zip(keys, had)
-        if rows and warm and (one := warm.find(key, rows[0].lines, rows[0].changed_at))
+        if rows and warm and (one := warm.take(key, rows[0].lines, rows[0].changed))
     }
     stored = [key for key, rows in zip(keys, had) if rows and rows[0].lines and key not in kept]
     lines = dict(zip(stored, read_lines(store, stored)))
-    refusals = dict(zip(keys, read_refusals(store, keys)))
+    refusals = read_some_refusals(store, keys)
     found = dict[Key, Held]()
     for key, rows in zip(keys, had):
-        site = rows[0].site if rows else sites[key]
+        site, order = (rows[0].site, rows[0].own_order) if rows else (sites[key], "")
+        refused = refusals.get(key, [])
         if key in kept:
-            found[key] = Held(site, kept[key].lines, refusals[key], kept[key])
+            found[key] = Held(site, kept[key].lines, refused, kept[key], order)
             continue
         own = lines.get(key, [])
         # A transaction without lines has no other rows.
-        found[key] = Held(site, own, refusals[key], None if own else Kept())
+        found[key] = Held(site, own, refused, None if own else Kept(), order)
         if rows and len(own) != rows[0].lines:
             raise StoreError(
                 f"transaction {key[1]} of {key[0]} has not the lines that its row counts"
             )
     return found
+
+
+def lock_rows(store: Database, sites: dict[Key, str], warm: "Warm | None") -> list[list[Row]]:
+    """The rows of these transactions, in the order of their keys: in PostgreSQL they are there then, and held."""
+    keys, columns = (
+        sorted(sites),
+        f"site, lines, {choose(CHANGED, store.kind)} as changed, own_order",
+    )
+    if store.kind != "postgresql":
+        return fetch_keyed(store, columns, "session", keys)
+    new = [key for key in keys if warm is None or key not in warm.kept]
+    while True:
+        if new:
+            store.execute(
+                """insert into session (station, transaction_id, site) select s, t, site
+                from json_to_recordset(:keys) as k (s text, t text, site text)
+                on conflict (station, transaction_id) do nothing""",
+                keys=json.dumps([{"s": key[0], "t": key[1], "site": sites[key]} for key in new]),
+            )
+        had = fetch_keyed(store, columns, "session", keys, "for update")
+        new = [key for key, rows in zip(keys, had) if not rows]
+        if not new:
+            return had
 
 
 def read_lines(store: Database, keys: Sequence[Key]) -> Iterable[list[Line]]:
@@ -201,25 +248,40 @@ def read_lines(store: Database, keys: Sequence[Key]) -> Iterable[list[Line]]:
 
 
 def read_refusals(store: Database, keys: Sequence[Key]) -> Iterable[list[Row]]:
-    """What was refused of each of these transactions and matters to its rows."""
-    columns, more = (
-        "cause, digest, number, text, times",
-        "and cause in ('ConflictingEvent', 'Untaken')",
-    )
-    return fetch_keyed(store, columns, "refusal", keys, more)
+    """What was refused of each of these transactions and waits for a decision: conflicts matter to its rows."""
+    columns = "cause, digest, number, case when cause = 'ConflictingEvent' then text end as text"
+    return fetch_keyed(store, columns, "refusal", keys, "and decision = ''")
+
+
+def read_some_refusals(store: Database, keys: Sequence[Key]) -> dict[Key, list[Row]]:
+    """The same of those of these transactions whose stations have some."""
+    if store.kind == "postgresql" and len(keys) > 1:
+        rows = store.fetch(
+            "select distinct station from refusal where station = any(:stations) and decision = ''",
+            stations=list_stations(keys),
+        )
+        stations = {row.station for row in rows}
+        keys = [key for key in keys if key[0] in stations]
+    return dict(zip(keys, read_refusals(store, keys)))
 
 
 # What a process stored last ------------------------------------------------------------------------------------------
 
+Values = tuple[Any, ...]  # Those of a row, in the order of its columns.
+
 
 @dataclass(slots=True)
 class Kept:
-    """The lines of a transaction, and the rows of its periods and findings by the first of their columns."""
+    """The lines of a transaction, the rows of its periods and findings by the first of their columns, its site, when
+    its row was changed, as CHANGED has it, and what the ledger knows of its lines."""
 
     lines: list[Line] = field(default_factory=list)
-    parts: dict[Any, tuple[Any, ...]] = field(default_factory=dict)
-    findings: dict[Any, tuple[Any, ...]] = field(default_factory=dict)
-    changed_at: datetime | None = None
+    parts: dict[Any, Values] = field(default_factory=dict)
+    findings: dict[Any, Values] = field(default_factory=dict)
+    site: str = ""
+    changed: int | str | None = None
+    course: Any = None
+    # About how many bytes all of it takes.
     size: int = 0
 
 
@@ -227,79 +289,72 @@ class Warm:
     """What a process stored last of transactions, so that it needn't read it again. It counts while the transaction's
     row has the count of lines and the moment of change that this process wrote."""
 
-    def __init__(self, most: int = 64 * 1_048_576) -> None:
-        """`most`: characters of lines that are kept."""
+    def __init__(self, most: int = 256 * 1_048_576) -> None:
+        """`most`: about how many bytes are kept."""
         self.most, self.size = most, 0
         self.kept = OrderedDict[Key, Kept]()
 
-    def find(self, key: Key, lines: int, changed_at: datetime | None) -> Kept | None:
-        """What is kept of a transaction, where that is what is stored."""
-        kept = self.kept.get(key)
-        if kept is None:
+    def take(self, key: Key, lines: int, changed: int | str | None) -> Kept | None:
+        """Takes out what is kept of a transaction; none where something else is stored."""
+        if key not in self.kept:
             return None
-        if changed_at is None or (len(kept.lines), kept.changed_at) != (lines, changed_at):
-            self.drop(key)
-            return None
-        self.kept.move_to_end(key)
-        return kept
-
-    def drop(self, key: Key) -> None:
-        """Keeps nothing of a transaction."""
-        if kept := self.kept.pop(key, None):
-            self.size -= kept.size
+        kept = self.kept.pop(key)
+        self.size -= kept.size
+        is_stored = changed is not None and (len(kept.lines), kept.changed) == (lines, changed)
+        return kept if is_stored else None
 
     def keep(self, key: Key, kept: Kept) -> None:
         """Keeps what was committed of a transaction; others go where there is no room."""
-        self.drop(key)
-        kept.size = sum(len(line.text) for line in kept.lines) + 1_000
         self.kept[key] = kept
         self.size += kept.size
         while self.size > self.most:
-            self.drop(next(iter(self.kept)))
+            _, one = self.kept.popitem(last=False)
+            self.size -= one.size
 
 
 # Writing -------------------------------------------------------------------------------------------------------------
 
 
+def write_changed(store: Database, at: datetime) -> int | str:
+    """A moment of change as CHANGED has it."""
+    return (at - EPOCH) // MICROSECOND if store.kind == "postgresql" else write_moment(at)
+
+
+class Written(NamedTuple):
+    """What a transaction has in the store from now on. `accepted`: its new lines; `course`: what the ledger knows of
+    all of them, and `size`: about how many bytes that takes."""
+
+    held: Held
+    accepted: Sequence[Line]
+    session: Values
+    parts: Sequence[Values]
+    findings: Sequence[Values]
+    course: Any
+    size: int
+
+
 class Writer:
     """Collects what changed of transactions, and writes it, each table by one statement in PostgreSQL."""
 
-    def __init__(self, store: Database, keeps: bool = False) -> None:
-        """`keeps`: what is written is kept, too."""
-        self.store, self.keeps = store, keeps
-        self.at = datetime.now(timezone.utc)
-        self.lines: list[tuple[Any, ...]] = []
-        self.sessions: list[dict[str, Any]] = []
-        self.rows: dict[Key, tuple[Held, list[dict[str, Any]], list[dict[str, Any]]]] = {}
+    def __init__(self, store: Database) -> None:
+        self.store, self.at = store, datetime.now(timezone.utc)
+        self.rows: dict[Key, Written] = {}
         self.empty: list[Key] = []
-        # What is stored of transactions once the database transaction is committed.
-        self.kept: dict[Key, Kept] = {}
 
-    def add(
-        self,
-        key: Key,
-        held: Held,
-        accepted: Sequence[Line],
-        session: dict[str, Any],
-        parts: list[dict[str, Any]],
-        findings: list[dict[str, Any]],
-    ) -> None:
-        """Collects the accepted lines of a transaction, and its rows."""
-        front = {"station": key[0], "transaction_id": key[1]}
-        self.lines += [(*key, *line) for line in accepted]
-        for name in SENT:
-            session[name] = clean_text(session[name])
-        self.sessions.append(front | {"site": held.site, "changed_at": self.at} | session)
-        self.rows[key] = held, parts, findings
-        if self.keeps:
-            self.kept[key] = Kept(
-                [*held.lines, *accepted],
-                {one["starts"]: tuple(one.values()) for one in parts},
-                {one["kind"]: tuple(one.values()) for one in findings},
-                self.at,
-            )
-        if len(self.sessions) >= WRITTEN_AT_ONCE:
+    def add(self, key: Key, one: Written) -> Kept:
+        """Collects what a transaction has, and gives what is to be kept of it once it is committed."""
+        self.rows[key] = one
+        if len(self.rows) >= WRITTEN_AT_ONCE:
             self.write()
+        return Kept(
+            [*one.held.lines, *one.accepted],
+            {row[0]: row for row in one.parts},
+            {row[0]: row for row in one.findings},
+            one.held.site,
+            write_changed(self.store, self.at),
+            one.course,
+            one.size,
+        )
 
     def drop_empty(self, key: Key) -> None:
         """Collects a transaction that was held and has no lines: its row goes again."""
@@ -308,106 +363,135 @@ class Writer:
 
     def write(self) -> None:
         """Writes what was collected."""
-        if self.lines:
-            insert_lines(self.store, self.lines)
-        columns = ["site", *SESSION, "changed_at"]
-        write_each(self.store, "session", KEYS, columns, self.sessions, compared=SESSION)
-        unknown = sorted(key for key, (held, _, _) in self.rows.items() if held.kept is None)
-        for table, columns, place in (("part", PART, 1), ("finding", FINDING, 2)):
-            had = dict(zip(unknown, fetch_keyed(self.store, ", ".join(columns), table, unknown)))
-            before = dict[Key, dict[Any, tuple[Any, ...]]]()
+        lines = [(*key, *line) for key, one in self.rows.items() for line in one.accepted]
+        insert_rows(self.store, "line", LINE, lines)
+        hour = count_hours(self.at)
+        sessions = [
+            (*key, one.held.site, self.at, hour, find_day(one.session), *clean_session(one.session))
+            for key, one in self.rows.items()
+        ]
+        columns = [*KEYS, "site", "changed_at", "changed_hour", "last_day", *SESSION]
+        write_rows(self.store, "session", columns, KEYS, sessions, compared=SESSION)
+        unknown = sorted(key for key, one in self.rows.items() if one.held.kept is None)
+        parts = {key: one.parts for key, one in self.rows.items()}
+        findings = {key: one.findings for key, one in self.rows.items()}
+        for table, columns, rows in (("part", PART, parts), ("finding", FINDING, findings)):
+            before = dict(zip(unknown, read_by_first(self.store, table, columns, unknown)))
             for key, one in self.rows.items():
-                if kept := one[0].kept:
-                    before[key] = dict(kept.parts if place == 1 else kept.findings)
-                else:
-                    before[key] = {
-                        getattr(row, columns[0]): tuple(getattr(row, name) for name in columns)
-                        for row in had[key]
-                    }
-            own = {key: one[1] if place == 1 else one[2] for key, one in self.rows.items()}
-            write_differences(self.store, table, columns, before, own)
+                if kept := one.held.kept:
+                    before[key] = kept.parts if table == "part" else kept.findings
+            write_differences(self.store, table, columns, before, rows)
         if self.empty:
             delete_each(self.store, "session", self.empty)
-        self.lines, self.sessions, self.rows, self.empty = [], [], {}, []
+        self.rows, self.empty = {}, []
 
 
-def insert_lines(store: Database, rows: Sequence[tuple[Any, ...]]) -> None:
-    """Adds lines, each with the values of LINE; one that is there fails."""
-    names = ", ".join(LINE)
-    if isinstance(store, SqliteDatabase):
-        store.insert_rows(f"insert into line ({names}) values ({', '.join('?' * len(LINE))})", rows)
-        return
-    # PostgreSQL has a type `line` of its own, so the table's can't be named here.
-    store.execute(
-        f"""insert into line ({names}) select {names} from json_to_recordset(:rows) as r (station text,
-        transaction_id text, number int, received timestamptz, line text, who text, origin text, why text)""",
-        rows=json.dumps([dict(zip(LINE, row)) for row in rows], default=datetime.isoformat),
-    )
+def read_by_first(
+    store: Database, table: str, columns: Sequence[str], keys: Sequence[Key]
+) -> Iterator[dict[Any, Values]]:
+    """The rows of each of these transactions by the first of these columns."""
+    for rows in fetch_keyed(store, ", ".join(columns), table, keys):
+        values = [tuple(getattr(row, name) for name in columns) for row in rows]
+        yield {one[0]: one for one in values}
+
+
+def find_day(session: Values) -> int | None:
+    """The last day of a transaction."""
+    last = session[LAST_AT]
+    return None if last is None else count_days(last)
+
+
+def clean_session(session: Values) -> Values:
+    """The row of a transaction, its texts as both databases keep them."""
+    if all(session[place].isascii() and "\0" not in session[place] for place in SENT):
+        return session
+    return tuple(clean_text(one) if n in SENT else one for n, one in enumerate(session))
 
 
 def clean_text(text: str) -> str:
     """A text as both databases keep it: without the character 0, and without half a surrogate pair."""
-    if text.isascii() and "\0" not in text:
-        return text
     return text.replace("\0", "\ufffd").encode("utf-8", "replace").decode()
 
 
-def write_each(
-    store: Database,
-    table: str,
-    keys: Sequence[str],
-    columns: Sequence[str],
-    rows: Sequence[dict[str, Any]],
-    compared: Sequence[str] = (),
+def write_json(columns: Sequence[str], rows: Iterable[Values]) -> str:
+    """Rows as the JSON of a table."""
+    return json.dumps([dict(zip(columns, row)) for row in rows], default=datetime.isoformat)
+
+
+def insert_rows(
+    store: Database, table: str, columns: Sequence[str], rows: Sequence[Values], more: str = ""
 ) -> None:
-    """Inserts rows, or writes their other columns where they are there. `compared`: the columns of which one has to
-    differ for that."""
+    """Inserts rows, each with the values of these columns; without `more` one that is there fails."""
     if not rows:
         return
-    where = ""
+    names, marks = ", ".join(columns), ", ".join("?" * len(columns))
+    if isinstance(store, SqliteDatabase):
+        store.execute_rows(f"insert into {table} ({names}) values ({marks}) {more}", rows)
+    elif table == "line":
+        # PostgreSQL has a type `line` of its own, so the table's can't be named here.
+        store.execute(
+            f"""insert into line ({names}) select {names} from json_to_recordset(:rows) as r (station text,
+            transaction_id text, number int, received timestamptz, line text, who text, origin text, why text)""",
+            rows=write_json(columns, rows),
+        )
+    else:
+        store.execute(
+            f"""insert into {table} ({names}) select {names} from json_populate_recordset(null::{table}, :rows)
+            {more}""",
+            rows=write_json(columns, rows),
+        )
+
+
+def write_rows(
+    store: Database,
+    table: str,
+    columns: Sequence[str],
+    keys: Sequence[str],
+    rows: Sequence[Values],
+    compared: Sequence[str] = (),
+) -> None:
+    """Inserts rows, or writes their columns beside the keys where they are there. `compared`: the columns of which one
+    has to differ for that."""
+    changes = ", ".join(f"{name} = excluded.{name}" for name in columns if name not in keys)
+    more = f"on conflict ({', '.join(keys)}) do update set {changes}"
     if compared:
         had, has = (", ".join(f"{of}.{name}" for name in compared) for of in (table, "excluded"))
-        where = f" where ({had}) is distinct from ({has})"
-    if store.kind == "sqlite":
-        store.execute_each(insert_text(table, keys, columns) + where, rows)
-        return
-    names = ", ".join([*keys, *columns])
-    changes = ", ".join(f"{name} = excluded.{name}" for name in columns)
-    store.execute(
-        f"""insert into {table} ({names}) select {names} from json_populate_recordset(null::{table}, :rows)
-        on conflict ({', '.join(keys)}) do update set {changes}{where}""",
-        rows=json.dumps(rows, default=datetime.isoformat),
-    )
+        more += f" where ({had}) is distinct from ({has})"
+    insert_rows(store, table, columns, rows, more)
 
 
 def write_differences(
     store: Database,
     table: str,
     columns: Sequence[str],
-    before: dict[Key, dict[Any, tuple[Any, ...]]],
-    own: dict[Key, list[dict[str, Any]]],
+    before: dict[Key, dict[Any, Values]],
+    own: dict[Key, Sequence[Values]],
 ) -> None:
     """Writes the rows of transactions in `part` or `finding`: those that are not there or differ; others go."""
-    name = columns[0]
-    more, gone = list[dict[str, Any]](), list[dict[str, Any]]()
+    keys = [*KEYS, columns[0]]
+    more, gone = list[Values](), list[Values]()
     for key, rows in own.items():
-        front, had = {"station": key[0], "transaction_id": key[1]}, before[key]
-        for one in rows:
-            if had.pop(one[name], None) != tuple(one.values()):
-                more.append(front | one)
-        gone += [front | {name: value} for value in had]
-    if gone and store.kind == "sqlite":
-        where = f"station = :station and transaction_id = :transaction_id and {name} = :{name}"
-        store.execute_each(f"delete from {table} where {where}", gone)
-    elif gone:
-        store.execute(
-            f"""delete from {table} t using json_populate_recordset(null::{table}, :rows) g
-            where t.station = g.station and t.transaction_id = g.transaction_id and t.{name} = g.{name}
-                and t.station = any(:stations)""",
-            rows=json.dumps(gone, default=datetime.isoformat),
-            stations=list_stations((one["station"], "") for one in gone),
-        )
-    write_each(store, table, (*KEYS, name), columns[1:], more)
+        had = before[key]
+        more += [(*key, *one) for one in rows if had.get(one[0]) != one]
+        gone += [(*key, first) for first in had.keys() - {one[0] for one in rows}]
+    if gone:
+        delete_rows(store, table, keys, gone)
+    write_rows(store, table, [*KEYS, *columns], keys, more)
+
+
+def delete_rows(store: Database, table: str, keys: Sequence[str], rows: Sequence[Values]) -> None:
+    """Deletes the rows with these keys."""
+    if isinstance(store, SqliteDatabase):
+        where = " and ".join(f"{name} = ?" for name in keys)
+        store.execute_rows(f"delete from {table} where {where}", rows)
+        return
+    where = " and ".join(f"t.{name} = g.{name}" for name in keys)
+    store.execute(
+        f"""delete from {table} t using json_populate_recordset(null::{table}, :rows) g
+        where {where} and t.station = any(:stations)""",
+        rows=write_json(keys, rows),
+        stations=list_stations((row[0], row[1]) for row in rows),
+    )
 
 
 def delete_each(store: Database, table: str, keys: Sequence[Key]) -> None:
@@ -424,6 +508,12 @@ def find_digests(store: Database, station: str, cause: str) -> set[str]:
     """The digests of the texts of a station and a cause that are kept."""
     asked = "select digest from refusal where station = :station and cause = :cause"
     return {row.digest for row in store.fetch(asked, station=station, cause=cause)}
+
+
+def note_left_out(store: Database, found: Iterable[LeftOut]) -> None:
+    """Adds stations whose messages are left out for their version, within a database transaction."""
+    if rows := [one._asdict() for one in found]:
+        store.execute_each(choose(ADD_LEFT_OUT, store.kind), rows)
 
 
 def find_deeds(store: Database, keys: Sequence[dict[str, Any]]) -> list[Row | None]:

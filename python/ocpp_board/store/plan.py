@@ -1,8 +1,8 @@
 """The plan of a store: its sites with their rules, its stations, and who changed them when and why."""
 
 import json
-from collections.abc import Iterator
-from dataclasses import asdict, dataclass
+from collections.abc import Iterable, Iterator, Sequence
+from dataclasses import asdict, dataclass, replace
 from datetime import datetime, timedelta, timezone
 from typing import Any
 from zoneinfo import ZoneInfo, ZoneInfoNotFoundError
@@ -11,10 +11,12 @@ from ocpp_board.errors import InputError
 from ocpp_board.limits import FIRST_MOMENT, GREATEST_LIMITS, ORDERS, PAST_MOMENTS, PERIODS
 from ocpp_board.limits import RULES as SETTLES
 from ocpp_board.limits import is_name
-from ocpp_board.records import Limits, Rules
+from ocpp_board.records import Limits, Quota, Rules
 from ocpp_board.store.database import Database, Row
 
-RULES_COLUMNS = "period, reading_order, settle, zone, events, readings, most_kw"
+RULES_COLUMNS = (
+    "period, reading_order, settle, zone, events, readings, most_kw, reading_within, resolution"
+)
 # The advisory locks of PostgreSQL by sites: writers of lines share one, who changes a site's plan has it alone.
 SITE_LOCK = 7_201_402
 
@@ -30,7 +32,58 @@ class Author:
 def read_rules(row: Row) -> Rules:
     """The rules that a row of `site` has."""
     limits = Limits(row.events, row.readings)
-    return Rules(row.period, row.reading_order, row.settle, limits, row.zone, row.most_kw)
+    more = (row.most_kw, row.reading_within, row.resolution)
+    return Rules(row.period, row.reading_order, row.settle, limits, row.zone, *more)
+
+
+@dataclass(frozen=True, slots=True)
+class Planned:
+    """What the plan has of some stations: the site of each, the powers of those that have one of their own, and the
+    rules and quotas of these sites."""
+
+    sites: dict[str, str]
+    powers: dict[str, int]
+    rules: dict[str, Rules]
+    quotas: dict[str, Quota]
+
+
+def find_planned(store: Database, stations: Sequence[str]) -> Planned:
+    """What the plan has of those of these stations that it has."""
+    columns = ", ".join(f"i.{name}" for name in RULES_COLUMNS.split(", "))
+    asked = f"""select t.station, t.most_kw as own_kw, i.site, {columns}, i.most_open, i.most_bytes
+    from station t join site i on i.site = t.site where t.station"""
+    if store.kind == "postgresql":
+        rows = store.fetch(f"{asked} = any(:stations)", stations=list(stations))
+    else:
+        some = store.fetch_each(f"{asked} = :station", [{"station": one} for one in stations])
+        rows = [row for one in some for row in one]
+    sites = {row.site: row for row in rows}
+    return Planned(
+        {row.station: row.site for row in rows},
+        {row.station: row.own_kw for row in rows if row.own_kw},
+        {site: read_rules(row) for site, row in sites.items()},
+        {site: Quota(row.most_open, row.most_bytes) for site, row in sites.items()},
+    )
+
+
+def own_rules(rules: Rules, own_order: str, most_kw: int | None) -> Rules:
+    """The rules of a transaction: those of its site, but for an order of its own and the power of its station."""
+    if own_order and own_order != rules.order:
+        rules = replace(rules, order=own_order)
+    return replace(rules, most_kw=most_kw) if most_kw and most_kw != rules.most_kw else rules
+
+
+def find_session_rules(store: Database, station: str, transaction: str) -> tuple[str, Rules] | None:
+    """The site and the rules of a transaction; None where there is none such."""
+    columns = ", ".join(f"i.{name}" for name in RULES_COLUMNS.split(", "))
+    row = store.fetch_one(
+        f"""select s.site, s.own_order, t.most_kw as own_kw, {columns}
+        from session s join site i on i.site = s.site left join station t on t.station = s.station
+        where s.station = :station and s.transaction_id = :transaction_id""",
+        station=station,
+        transaction_id=transaction,
+    )
+    return (row.site, own_rules(read_rules(row), row.own_order, row.own_kw)) if row else None
 
 
 def find_rules(store: Database, site: str) -> Rules | None:
@@ -58,6 +111,12 @@ def check_rules(rules: Rules, where: str) -> None:
             raise InputError(
                 f"{where}: {value} {name}; a transaction may keep 1 to {GREATEST_LIMITS[name]}"
             )
+    if not 0 < rules.reading_within <= 86_400:
+        raise InputError(
+            f"{where}: a reading within {rules.reading_within} seconds; give 1 to 86,400 seconds"
+        )
+    if not 0 <= rules.resolution <= 100_000:
+        raise InputError(f"{where}: a resolution of {rules.resolution} Wh; give 0 to 100,000 Wh")
     if not 0 < rules.most_kw <= 1_000_000:
         raise InputError(f"{where}: a power of {rules.most_kw} kW; give one from 1 to 1,000,000")
     open_zone(rules.zone, where)
@@ -79,16 +138,31 @@ def check_name(name: str, what: str, where: str) -> None:
         )
 
 
-def lock_sites(store: Database, sites: list[str], is_alone: bool) -> None:
-    """Holds sites up to the end of the database transaction: for their lines, or alone for their plan. SQLite has one
-    writer at a time anyway."""
+def lock_sites(store: Database, sites: list[str]) -> None:
+    """Holds sites for a change of their plan, up to the end of the database transaction: nobody writes their lines.
+    SQLite has one writer at a time anyway."""
     if store.kind == "postgresql":
-        word = "" if is_alone else "_shared"
         store.execute(
-            f"""select pg_advisory_xact_lock{word}({SITE_LOCK}, hashtext(site))
+            f"""select pg_advisory_xact_lock({SITE_LOCK}, hashtext(site))
             from (select unnest(cast(:sites as text[])) as site order by 1) as sorted""",
             sites=sorted(set(sites)),
         )
+
+
+def share_sites(store: Database, stations: Sequence[str], sites: Iterable[str]) -> set[str]:
+    """Holds the sites of these stations, and these sites, for their lines, up to the end of the database transaction,
+    and gives those that it holds: their plan does not change. SQLite has one writer at a time anyway.
+    """
+    if store.kind != "postgresql":
+        return set(sites)
+    rows = store.fetch(
+        f"""select site, pg_advisory_xact_lock_shared({SITE_LOCK}, hashtext(site)) from (
+            select site from station where station = any(:stations) union select unnest(cast(:sites as text[]))
+            order by 1) as sorted""",
+        stations=list(stations),
+        sites=sorted(set(sites)),
+    )
+    return {row.site for row in rows}
 
 
 def write_site(
@@ -98,7 +172,7 @@ def write_site(
     depend on: whoever calls computes them again. Raises InputError."""
     check_name(site, "site", where)
     check_rules(rules, where)
-    lock_sites(store, [site], True)
+    lock_sites(store, [site])
     store.execute("update site set place = place where site = :site", site=site)
     had = store.fetch_one(
         f"select {RULES_COLUMNS}, first_settled_day from site where site = :site", site=site
@@ -114,11 +188,11 @@ def write_site(
             )
     store.execute(
         f"""insert into site (site, {RULES_COLUMNS}, place)
-        values (:site, :period, :order, :settle, :zone, :events, :readings, :most_kw,
+        values (:site, :period, :order, :settle, :zone, :events, :readings, :most_kw, :reading_within, :resolution,
             (select coalesce(max(place), 0) + 1 from site))
         on conflict (site) do update set period = excluded.period, reading_order = excluded.reading_order,
             settle = excluded.settle, zone = excluded.zone, events = excluded.events, readings = excluded.readings,
-            most_kw = excluded.most_kw""",
+            most_kw = excluded.most_kw, reading_within = excluded.reading_within, resolution = excluded.resolution""",
         site=site,
         **list_values(rules),
     )
@@ -134,7 +208,10 @@ def decide_figures(rules: Rules) -> tuple[Any, ...]:
 
 def decide_rows(rules: Rules) -> tuple[Any, ...]:
     """The rules that the rows of a transaction depend on."""
-    return rules.period, rules.order, rules.settle, rules.most_kw
+    return (
+        *(rules.period, rules.order, rules.settle, rules.most_kw),
+        *(rules.reading_within, rules.resolution),
+    )
 
 
 def list_values(rules: Rules) -> dict[str, Any]:
@@ -147,6 +224,8 @@ def list_values(rules: Rules) -> dict[str, Any]:
         "events": rules.limits.events,
         "readings": rules.limits.readings,
         "most_kw": rules.most_kw,
+        "reading_within": rules.reading_within,
+        "resolution": rules.resolution,
     }
 
 
@@ -168,7 +247,7 @@ def write_station(
     )
     if had and had.site == site and had.until is None:
         return False
-    lock_sites(store, [site, *([had.site] if had else [])], True)
+    lock_sites(store, [site, *([had.site] if had else [])])
     store.execute(
         """insert into station (station, site, since, place)
         values (:station, :site, :now, (select coalesce(max(place), 0) + 1 from station))
@@ -181,6 +260,26 @@ def write_station(
     note_change(
         store, author, "station", station, before, json.dumps({"site": site, "retired": False})
     )
+    return True
+
+
+def write_power(
+    store: Database, station: str, most_kw: int, author: Author, where: str = "plan"
+) -> bool:
+    """Says the greatest power of a station's EVSEs in kW, within a database transaction. Returns whether it is another
+    one: whoever calls computes its rows again. Raises InputError."""
+    had = store.fetch_one("select most_kw from station where station = :station", station=station)
+    if had is None:
+        raise InputError(f"{where}: there is no station {station!r}")
+    if had.most_kw == most_kw:
+        return False
+    store.execute(
+        "update station set most_kw = :most_kw where station = :station",
+        station=station,
+        most_kw=most_kw,
+    )
+    before, after = (json.dumps({"most_kw": kw}) for kw in (had.most_kw, most_kw))
+    note_change(store, author, "station", station, before, after)
     return True
 
 

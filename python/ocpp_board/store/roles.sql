@@ -32,10 +32,12 @@ grant select on store, site, station, zone_offset, password to ocpp_gateway;
 grant select, insert on line to ocpp_gateway, ocpp_operator;
 grant select, insert, update, delete on session, part, finding, meter_value, refusal, stray
     to ocpp_gateway, ocpp_operator;
-grant select, insert, update on usage, source to ocpp_gateway, ocpp_operator;
+grant select, insert, update on usage, source, left_out to ocpp_gateway, ocpp_operator;
 grant select, insert on mended to ocpp_gateway, ocpp_operator;
 -- Operators' lines that are settled have their answers here; a gateway's engine asks whether one was.
 grant select on deed to ocpp_gateway;
+-- What gateways count for who watches.
+grant select on lacking to ocpp_gateway;
 -- A station that comes with its next password ends the one before.
 grant update (seen_at), delete on password to ocpp_gateway;
 grant update (heard_at) on station to ocpp_gateway;

@@ -16,8 +16,11 @@ create table site (
     events int not null default 4096,           -- what a transaction may keep
     readings int not null default 16384,
     most_kw int not null default 400,           -- the greatest power of an EVSE that can be
-    most_open int not null default 0,           -- open transactions of a station, bytes a day; 0: any number
-    most_bytes bigint not null default 0,
+    reading_within int not null default 300,    -- seconds from a start or an end within which it has its reading
+    resolution int not null default 10,         -- Wh: a register that falls by less has not fallen
+    most_open int not null default 0,           -- open transactions of a station, bytes a day, and messages a second
+    most_bytes bigint not null default 0,       -- at a gateway, over a minute; 0: any number
+    most_rate int not null default 0,
     first_settled_day date,
     place int not null default 0                -- the order of sites on pages
 );
@@ -27,6 +30,7 @@ create table station (
     site text /*postgresql collate "C"*/ not null,
     since timestamptz,
     until timestamptz,                          -- when it was retired
+    most_kw int,                                -- the greatest power of its EVSEs, where it is not that of its site
     certificate text not null default '',
     heard_at timestamptz,                       -- when a gateway heard of it last
     place int not null default 0
@@ -133,14 +137,22 @@ create table session (
     first_boundary_at timestamptz,              -- and the first of these
     received_until timestamptz,
     changed_at timestamptz,
+    -- Those two moments in days and hours since 1970: indexes have these, since each message changes the moments.
+    last_day int,
+    changed_hour int,
+    energy_measured text not null default 'no', -- whether readings say its energy: yes, part, no
+    first_reading_at timestamptz,
+    last_reading_at timestamptz,
+    peak_w bigint not null default 0,           -- the greatest power between two readings, in W
+    own_order text not null default '' check (own_order in ('', 'sequence', 'moment')),  -- where it is not the site's
     primary key (station, transaction_id)
 ) /*postgresql partition by hash (station)*/;
-create index session_site on session (site, station);
-create index session_changed on session (changed_at);
-create index session_time on session (station, evse, first_at);
+create index session_site on session (site, station, evse, first_at, transaction_id);
+create index session_changed on session (changed_hour);
+create index session_time on session (station, first_at, evse);
 create index session_site_first on session (site, first_at);
-create index session_site_last on session (site, last_at, first_at);
-create index session_lacking on session (site, station) where events > 0 and not complete;
+create index session_site_last on session (site, last_day, first_at);
+create index session_lacking on session (site, station) where not complete;
 -- A settlement period of a transaction. `on_board`: a board shows it; `shared`: what it gets if energy around its
 -- unmeasured ends is shared by time, net; null where it is measured.
 create table part (
@@ -180,9 +192,11 @@ create table meter_value (
 
 -- What changed nothing ------------------------------------------------------------------------------------------------
 
--- Messages that were refused and lines that no source could take, each with its text. `digest`: that of text and
--- cause, so the same again is one row; `origins`: the places in files that it was read from, so a file that is read
--- again is not counted again. Beyond so many texts of a station and a cause the text is that of the first one.
+-- Messages that were refused and lines that no source could take, each with its text. `digest`: that of the text, so the
+-- same again is one row of a cause; `origins`: the places in files that it was read from, so a file that is read again
+-- is not counted again. Of messages of a station that sends too much so many are kept each, and the text of further ones is that
+-- of the first one. `decision`: what somebody decided, or the engine where the text was taken after all: `taken`, `taken
+-- as ID`, `mended`, `left out`; empty while it waits.
 create table refusal (
     station text /*postgresql collate "C"*/ not null,
     cause text /*postgresql collate "C"*/ not null,
@@ -199,9 +213,14 @@ create table refusal (
     times bigint not null default 1,
     first_at timestamptz,
     last_at timestamptz,
+    decision text not null default '',
+    decided_at timestamptz,
+    decided_by text not null default '',
+    decided_why text not null default '',
     primary key (station, cause, digest)
 ) /*postgresql partition by hash (station)*/;
 create index refusal_session on refusal (station, transaction_id);
+create index refusal_text on refusal (station, digest);
 -- Messages of stations that no site has. They are taken once the plan has the station.
 create table stray (
     station text /*postgresql collate "C"*/ not null,
@@ -218,6 +237,15 @@ create table stray (
     first_at timestamptz,
     last_at timestamptz,
     primary key (station, digest)
+);
+-- Stations whose messages are left out since they are of another version of OCPP.
+create table left_out (
+    station text /*postgresql collate "C"*/ not null,
+    version text not null,
+    site text /*postgresql collate "C"*/ not null default '',              -- as the source names it
+    first_at timestamptz,
+    last_at timestamptz,
+    primary key (station, version)
 );
 -- Messages that were mended before they were taken. `mends`: the faults; `came`: the text as the station sent it;
 -- `digest`: that of the text.

@@ -1,15 +1,19 @@
 """Stations as gateways read and write them: their passwords, who serves them, and changes of the plan."""
 
 import json
-from collections.abc import Sequence
+from collections.abc import Mapping, Sequence
 from datetime import datetime, timedelta, timezone
 from functools import lru_cache
+from typing import NamedTuple
 
 from ocpp_board.errors import InputError
-from ocpp_board.passwords import find_mistake, make_password
+from ocpp_board.passwords import Password, find_mistake, make_password
 from ocpp_board.store.database import Database, choose
 from ocpp_board.store.plan import Author, note_change
 
+# What each station of a site may have, and the greatest that a column has room for.
+QUOTAS = ("most_open", "most_bytes", "most_rate")
+GREATEST_QUOTAS = {"most_open": 2**31 - 1, "most_bytes": 2**63 - 1, "most_rate": 2**31 - 1}
 # How long looks look back: for connections, whose moments are those of the database and are written at once, and for
 # changes of the plan, whose moments may be those of another machine.
 LATE_CONNECTIONS, LATE_CHANGES = timedelta(seconds=5), timedelta(seconds=30)
@@ -17,8 +21,8 @@ LATE_CONNECTIONS, LATE_CHANGES = timedelta(seconds=5), timedelta(seconds=30)
 NAMES = "(/*sqlite select value from json_each(:names)*//*postgresql select json_array_elements_text(:names)*/)"
 NOW = "/*sqlite :now*//*postgresql clock_timestamp()*/"
 FIND = f"""
-select s.station, p.hash, p.salt, p.cost, p.seen_at
-from station s left join password p on p.station = s.station
+select s.station, s.site, i.most_rate, p.hash, p.salt, p.cost, p.seen_at
+from station s join site i on i.site = s.site left join password p on p.station = s.station
 where s.station in {NAMES} and s.until is null
 order by s.station, p.set_at desc
 """
@@ -30,7 +34,9 @@ on conflict (station) do update set gateway = excluded.gateway, number = exclude
 CONNECTED = (
     "select station, gateway, number from connection where since > :since and gateway <> :gateway"
 )
-CHANGED = "select id, name from change where at > :since and what in ('station', 'password')"
+CHANGED = """
+select id, what, name from change where at > :since and what in ('station', 'password', 'site') order by id
+"""
 SEE = "update password set seen_at = :now where station = :station and hash = :hash and seen_at is null"
 HAS = "select 1 as one from password where station = :station and hash = :hash"
 END_OLDER = """
@@ -38,7 +44,22 @@ delete from password where station = :station
 and set_at < (select set_at from password where station = :station and hash = :hash)
 """
 
-Row = tuple[str, str, int, bool]
+
+class Planned(NamedTuple):
+    """A station of the plan: its site, the messages a second that the site's quota allows, and its passwords, the
+    newest one first."""
+
+    site: str
+    most_rate: int
+    passwords: tuple[Password, ...] = ()
+
+
+class Change(NamedTuple):
+    """A change of the plan: its number, and of what it was."""
+
+    number: int
+    what: str
+    name: str
 
 
 @lru_cache(256)
@@ -57,14 +78,14 @@ def check(store: Database) -> None:
     store.fetch("select station from station where station = ''")
 
 
-def find_stations(store: Database, names: Sequence[str]) -> dict[str, list[Row]]:
-    """The stations of these names that the plan has, each with its passwords, the newest one first: hash, salt, cost,
-    and whether the station came with it before."""
-    found = dict[str, list[Row]]()
+def find_stations(store: Database, names: Sequence[str]) -> dict[str, Planned]:
+    """The stations of these names that the plan has."""
+    found = dict[str, Planned]()
     for row in store.fetch(write_statement(FIND, store.kind), names=json.dumps(list(names))):
-        passwords = found.setdefault(row.station, [])
+        one = found.setdefault(row.station, Planned(row.site, row.most_rate))
         if row.hash is not None:
-            passwords.append((row.hash, row.salt, row.cost, row.seen_at is not None))
+            password = Password(row.hash, row.salt, row.cost, row.seen_at is not None)
+            found[row.station] = one._replace(passwords=(*one.passwords, password))
     return found
 
 
@@ -96,8 +117,8 @@ def write_connections(store: Database, gateway: str, let_in: Sequence[tuple[str,
 
 def look_for_changes(
     store: Database, gateway: str
-) -> tuple[list[tuple[str, str, int]], list[tuple[int, str]]]:
-    """The connections that other gateways wrote lately, and the latest changes of stations: their ids and names."""
+) -> tuple[list[tuple[str, str, int]], list[Change]]:
+    """The connections that other gateways wrote lately, and the latest changes of stations and sites."""
     at = now()
     if store.kind == "postgresql":
         (row,) = store.fetch("select clock_timestamp() as at")
@@ -106,7 +127,7 @@ def look_for_changes(
     changes = store.fetch(CHANGED, since=at - LATE_CHANGES)
     return (
         [(row.station, row.gateway, row.number) for row in connections],
-        [(row.id, row.name) for row in changes],
+        [Change(row.id, row.what, row.name) for row in changes],
     )
 
 
@@ -156,35 +177,54 @@ def set_password(
 
 
 def write_quota(
-    store: Database, site: str, author: Author, most_open: int | None, most_bytes: int | None
-) -> tuple[int, int]:
-    """Sets the quotas of a site that are named, and gives both. Raises InputError."""
-    asked = "select most_open, most_bytes from site where site = :site"
+    store: Database, site: str, author: Author, named: Mapping[str, int | None]
+) -> dict[str, int]:
+    """Sets the quotas of a site that are named, by the names of QUOTAS, and gives all. Raises InputError."""
     with store.transaction():
-        had = store.fetch_one(asked, site=site)
+        had = store.fetch_one(f"select {', '.join(QUOTAS)} from site where site = :site", site=site)
         if had is None:
             raise InputError(f"plan quota: there is no site {site!r}; add it first")
-        quota = (
-            had.most_open if most_open is None else most_open,
-            had.most_bytes if most_bytes is None else most_bytes,
-        )
-        store.execute(
-            "update site set most_open = :open, most_bytes = :bytes where site = :site",
-            **{"site": site, "open": quota[0], "bytes": quota[1]},
-        )
-        before, after = (
-            json.dumps(dict(zip(("most_open", "most_bytes"), one)))
-            for one in ((had.most_open, had.most_bytes), quota)
-        )
-        note_change(store, author, "site", site, before, after)
-    return quota
+        before = {name: int(getattr(had, name)) for name in QUOTAS}
+        after = before | {name: value for name, value in named.items() if value is not None}
+        for name, value in after.items():
+            if not 0 <= value <= GREATEST_QUOTAS[name]:
+                raise InputError(
+                    f"plan quota: {name} {value}; give 1 to {GREATEST_QUOTAS[name]:,}, or 0 for any number"
+                )
+        changes = ", ".join(f"{name} = :{name}" for name in QUOTAS)
+        store.execute(f"update site set {changes} where site = :site", site=site, **after)
+        note_change(store, author, "site", site, json.dumps(before), json.dumps(after))
+    return after
 
 
-def read_figures(store: Database) -> tuple[int, dict[str, float]]:
-    """For who watches: how many messages are of stations that no site has, and seconds since each site's last closing,
-    of those that were closed once."""
+class StoreFigures(NamedTuple):
+    """What a store says for who watches: how many messages are of stations that no site has, seconds since each site's
+    last closing, of those that were closed once, and by site how many sessions that lack messages are silent, and how
+    many refused texts wait for a decision."""
+
+    strays: int = 0
+    closing_ages: Mapping[str, float] = {}
+    silent: Mapping[str, int] = {}
+    waiting: Mapping[str, int] = {}
+
+
+def read_figures(store: Database, hours: float) -> StoreFigures:
+    """The figures of a store. `hours`: for how long nothing came of sessions that are silent."""
     (row,) = store.fetch("select count(*) as n from stray")
     if not store.has_table("closing"):
-        return row.n, {}
-    rows = store.fetch("select site, max(at) as closed_at from closing group by site")
-    return row.n, {one.site: (now() - one.closed_at).total_seconds() for one in rows}
+        return StoreFigures(row.n)
+    closings = store.fetch("select site, max(at) as closed_at from closing group by site")
+    silent = store.fetch(
+        "select site, count(*) as n from lacking where heard_at < :before group by site",
+        before=now() - timedelta(hours=hours),
+    )
+    waiting = store.fetch(
+        """select t.site, count(*) as n from refusal r join station t on t.station = r.station
+        where r.decision = '' group by t.site"""
+    )
+    return StoreFigures(
+        row.n,
+        {one.site: (now() - one.closed_at).total_seconds() for one in closings},
+        {one.site: one.n for one in silent},
+        {one.site: one.n for one in waiting},
+    )

@@ -87,10 +87,15 @@ create view energy as
     from evse_period e join site i on i.site = e.site
     join zone_offset z on z.zone = i.zone and e.starts >= z.since and e.starts < z.until;
 
--- The transactions that are not complete: what they lack, and since when nothing came of them.
+-- The transactions that are not complete and that nobody settled by rule: what they lack, what they imported so far, and
+-- when something came of them last (`heard_at`), by receipt where that is known. Running ones are those of which
+-- something came lately.
 create view lacking as
-    select site, station, transaction_id, sent_id, evse, state, missing, gaps, first_at, last_at, received_until, changed_at
-    from session where events > 0 and not complete;
+    select s.site, s.station, s.transaction_id, s.sent_id, s.evse, s.state, s.missing, s.gaps, s.first_at, s.last_at,
+        s.received_until, s.changed_at, s.up - s.down as imported, coalesce(s.received_until, s.last_at) as heard_at
+    from session s
+    left join rule_settled r on r.station = s.station and r.transaction_id = s.transaction_id
+    where s.events > 0 and not s.complete and s.state not like 'complete%' and r.station is null;
 
 -- When something was heard of each planned station last, and the last moment that a transaction of it names.
 create view silent_station as
@@ -99,21 +104,22 @@ create view silent_station as
         (select max(s.received_until) from session s where s.station = t.station) as received_until
     from station t where t.until is null;
 
--- What was refused and changed nothing, messages of unknown stations included, by station, transaction, number and
--- cause: how often, since when.
+-- What was refused and changed nothing, messages of unknown stations included, by station, transaction, number, cause
+-- and decision: how often, since when. `decision` is empty while nobody decided what becomes of it.
 create view refused as
     select coalesce(t.site, r.site) as site, r.station, r.transaction_id, r.sent_id, r.sent_number, r.number, r.cause,
         r.what, r.advice, cast(sum(r.times) as bigint) as times, min(r.first_at) as first_at, max(r.last_at) as last_at,
-        min(r.text) as text
+        min(r.text) as text, r.decision, min(r.decided_by) as decided_by, min(r.decided_why) as decided_why
     from (
         select site, station, transaction_id, sent_id, sent_number, number, cause, what, advice, times, first_at,
-            last_at, text
+            last_at, text, decision, decided_by, decided_why
         from refusal
         union all
         select site, station, transaction_id, sent_id, cast(number as text), number, 'UnknownStation',
-            'no station ''' || station || ''' is declared', 'declare the station, or name it in the file of stations',
-            times, first_at, last_at, text
+            'no station ''' || station || ''' is declared',
+            'add it by `plan station ' || station || ' --site SITE`: what came is taken then',
+            times, first_at, last_at, text, '', '', ''
         from stray) r
     left join station t on t.station = r.station
     group by coalesce(t.site, r.site), r.station, r.transaction_id, r.sent_id, r.sent_number, r.number, r.cause, r.what,
-        r.advice;
+        r.advice, r.decision;

@@ -14,14 +14,14 @@ from starlette.responses import HTMLResponse, Response
 from ocpp_board.energies import Flow, kwh
 from ocpp_board.ledger.engine import settle
 from ocpp_board.ledger.program import find_program
-from ocpp_board.ledger.rows import DELIVER, Rows, Work, work_out
+from ocpp_board.ledger.rows import Rows, Work, work_out
 from ocpp_board.limits import GREATEST_SEQ_NO, TRANSACTION, is_name
 from ocpp_board.messages.message_faults import REMEDIES
 from ocpp_board.messages.texts import one_line
-from ocpp_board.records import DEEDS, Deed, Line
+from ocpp_board.records import DEEDS, DELIVER, Deed, Line
 from ocpp_board.store.database import Database
 from ocpp_board.store.lines import read_lines, read_refusals
-from ocpp_board.store.plan import find_rules
+from ocpp_board.store.plan import find_session_rules
 from ocpp_board.web.desk import Request, Wrong, open_view
 from ocpp_board.web.signing import OPERATOR
 from ocpp_board.web.views import LINKS, make_context
@@ -96,27 +96,21 @@ def preview(store: Database, words: Words) -> Preview | None:
     """What a deed will change, by the program over the stored lines; nothing is written. None where the store has no
     such transaction."""
     key = words.station, words.transaction.lower()
-    row = store.fetch_one(
-        "select site from session where station = :station and transaction_id = :tx",
-        station=key[0],
-        tx=key[1],
-    )
-    rules = find_rules(store, row.site) if row else None
-    if row is None or rules is None:
+    found = find_session_rules(store, *key)
+    if found is None:
         return None
+    site, rules = found
     lines = next(iter(read_lines(store, [key])))
     refused = next(iter(read_refusals(store, [key])))
     texts = (one_line(one.text) for one in refused if one.cause == CONFLICT)
     conflicts = [f"{DELIVER}{key[0]} {text}" for text in texts]
     line = Line(0, f"{words.word} {key[0]} {key[1]} {words.number}")
-    works = [
-        Work(*key, row.site, rules, lines, new, conflicts, True) for new in (list[Line](), [line])
-    ]
+    works = [Work(*key, site, rules, lines, new, conflicts, True) for new in (list[Line](), [line])]
     before, after = work_out(find_program(), works)
     answer = after.answers[0]
     assert before.rows and after.rows
     changes = compare_rows(before.rows, after.rows, rules.zone)
-    return Preview(row.site, answer.outcome, answer.name, changes)
+    return Preview(site, answer.outcome, answer.name, changes)
 
 
 def compare_rows(before: Rows, after: Rows, zone: str) -> list[TableRow]:

@@ -1,13 +1,20 @@
 """Days, months and hours of a site's zone."""
 
+import re
 from datetime import date, datetime, timedelta, timezone
 from functools import lru_cache
 from zoneinfo import ZoneInfo
+
+from ocpp_board.messages.times import seconds_of
 
 # How a moment of UTC is written in CSV files.
 MOMENT = "%Y-%m-%dT%H:%M:%SZ"
 # Moments that are kept with their texts.
 KEPT_MOMENTS = 16_384
+# The minute and the second of a moment as most messages write it.
+STAMP = re.compile(
+    r"(20[0-9]{2}-[0-9]{2}-[0-9]{2}T[0-9]{2}:[0-9]{2}):([0-5][0-9])(?:\.[0-9]{1,6})?Z"
+)
 
 
 class Calendar:
@@ -21,7 +28,9 @@ class Calendar:
         self.times = lru_cache(KEPT_MOMENTS)(self.write_times)
         self.cells = lru_cache(KEPT_MOMENTS)(self.write_cells)
         self.day = lru_cache(KEPT_MOMENTS)(self.find_day)
+        self.stamp_minute = lru_cache(KEPT_MOMENTS)(self.write_stamp_minute)
         self.begin = lru_cache(KEPT_MOMENTS)(self.find_begin)
+        self.hour = lru_cache(KEPT_MOMENTS)(self.find_hour)
 
     def local(self, at: datetime) -> datetime:
         """A moment in the zone."""
@@ -34,6 +43,13 @@ class Calendar:
     def find_begin(self, day: date) -> datetime:
         """The first moment of a day, in UTC."""
         return datetime(day.year, day.month, day.day, tzinfo=self.zone).astimezone(timezone.utc)
+
+    def find_hour(self, at: datetime) -> datetime:
+        """When the hour of the day began that a moment is in."""
+        local = self.local(at)
+        return at - timedelta(
+            minutes=local.minute, seconds=local.second, microseconds=local.microsecond
+        )
 
     def end(self, day: date) -> datetime:
         """The first moment of the day after, in UTC."""
@@ -49,15 +65,28 @@ class Calendar:
 
     def minute(self, at: datetime) -> str:
         """The day and the time of a moment, to the minute."""
-        return f"{self.local(at):%Y-%m-%d %H:%M}"
+        return str(self.local(at))[:16]
 
     def second(self, at: datetime) -> str:
         """The day and the time of a moment, to the second."""
-        return f"{self.local(at):%Y-%m-%d %H:%M:%S}"
+        return str(self.local(at))[:19]
 
-    def write_seconds(self, seconds: float) -> str:
-        """The same of a moment in seconds since 1970."""
+    def write_stamp(self, text: str) -> str | None:
+        """The same of a moment as a message writes it; None where the text is none."""
+        if found := STAMP.fullmatch(text):
+            minute = self.stamp_minute(found[1])
+            return minute and f"{minute}:{found[2]}"
+        seconds = seconds_of(text)
+        if seconds is None:
+            return None
         return self.second(datetime.fromtimestamp(seconds, timezone.utc))
+
+    def write_stamp_minute(self, text: str) -> str | None:
+        """The day and the time of a minute of UTC; None where the text is none."""
+        seconds = seconds_of(f"{text}:00Z")
+        if seconds is None:
+            return None
+        return self.minute(datetime.fromtimestamp(seconds, timezone.utc))
 
     def write_label(self, at: datetime) -> str:
         """The hour and the minute of a moment. In an hour that comes twice they are 2A:15 and later 2B:15."""

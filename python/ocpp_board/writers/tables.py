@@ -22,10 +22,12 @@ from collections.abc import Callable, Collection, Iterable, Iterator, Sequence
 from dataclasses import dataclass
 from datetime import date, datetime, timedelta, timezone
 from functools import lru_cache
+from itertools import chain
+from operator import attrgetter
 from pathlib import Path
 from typing import Any, NamedTuple
 
-from ocpp_board.energies import kwh_of
+from ocpp_board.energies import MWH_OF_A_KWH
 from ocpp_board.escapes import csv_cell
 from ocpp_board.ledger.findings import Effect, Kind
 from ocpp_board.messages.bills import (
@@ -36,7 +38,8 @@ from ocpp_board.messages.bills import (
     token_cell,
     write_signed,
 )
-from ocpp_board.store.database import Database, Row
+from ocpp_board.store.database import Database, Row, count_days
+from ocpp_board.writers.bills import describe_measured
 from ocpp_board.writers.calendar import MOMENT, Calendar, find_calendar
 from ocpp_board.writers.files import name_file
 
@@ -49,12 +52,12 @@ MOST_DAYS = 8
 # The time of an operator's line whose source has none.
 NO_TIME = datetime(2000, 1, 1, tzinfo=timezone.utc)
 FLOWS = [
-    "up (mWh)",
-    "down (mWh)",
+    "up (milliwatt_hours)",
+    "down (milliwatt_hours)",
     "up (kWh)",
     "down (kWh)",
-    "export up (mWh)",
-    "export down (mWh)",
+    "export up (milliwatt_hours)",
+    "export down (milliwatt_hours)",
     "export up (kWh)",
     "export down (kWh)",
 ]
@@ -69,10 +72,12 @@ REFUSED = [
     "cause",
     "what",
     "advice",
+    "decision",
 ]
 OPERATOR = ["time (UTC)", "who", "what", "site", "station", "transaction", "seqNo", "why", "answer"]
 MENDED = ["time (UTC)", "site", "station", "transaction", "seqNo", "mended", "as it came"]
 REFUSED_ORDER = "order by first_at, station, sent_id, number, cause, what"
+SESSION_ORDER = "order by coalesce(t.place, 0), s.station, s.transaction_id"
 KINDS = {kind.label: kind for kind in Kind}
 # The places of the kinds of findings: by what they do to figures, the gravest first, and by the kind.
 EFFECTS = [*Effect]
@@ -125,15 +130,16 @@ def write_text(rows: Iterable[Iterable[Cell]]) -> str:
 
 
 @lru_cache(KEPT)
-def write_signed_kwh(mwh: int) -> str:
-    """An energy in kWh, exactly, which may be negative."""
-    return f"{'-' if mwh < 0 else ''}{kwh_of(abs(mwh))}"
+def write_kwh(mwh: int) -> str:
+    """An energy in kWh with six decimals, which may be negative."""
+    whole, part = divmod(abs(mwh), MWH_OF_A_KWH)
+    return f"{'-' if mwh < 0 else ''}{whole}.{part:06}"
 
 
 def write_flow(up: int, down: int, export_up: int, export_down: int) -> list[Cell]:
     """The cells of an energy."""
-    imported: list[Cell] = [up, down, kwh_of(up), kwh_of(down)]
-    return imported + [export_up, export_down, kwh_of(export_up), kwh_of(export_down)]
+    imported: list[Cell] = [up, down, write_kwh(up), write_kwh(down)]
+    return imported + [export_up, export_down, write_kwh(export_up), write_kwh(export_down)]
 
 
 def find_net(row: Row) -> int:
@@ -143,7 +149,7 @@ def find_net(row: Row) -> int:
 
 def write_register(mwh: int | None) -> str:
     """The cell of a register; empty where it was not read."""
-    return "" if mwh is None else kwh_of(mwh)
+    return "" if mwh is None else write_kwh(mwh)
 
 
 def list_sites(store: Database) -> list[Site]:
@@ -214,6 +220,7 @@ class SiteTables:
     ) -> None:
         """`day`: tables have only what began on this day of the site's zone; `book`: findings that were read before."""
         self.store, self.site, self.options, self.day = store, site, options, day
+        self.out = out
         self.book = book or Book(store)
         self.calendar = find_calendar(site.zone)
         self.folder = out / name_file(site.site)
@@ -235,25 +242,22 @@ class SiteTables:
         """The heads of the columns of a moment."""
         return [f"{name} (UTC)", *([] if self.calendar.is_utc else [f"{name} ({self.site.zone})"])]
 
-    def find_span(self) -> tuple[datetime, datetime]:
-        """The first moment of the tables' day, and the first one after it."""
-        assert self.day
-        return self.calendar.begin(self.day), self.calendar.end(self.day)
-
-    def fetch_sessions(self, columns: str, order: str, station: str | None = None) -> list[Row]:
+    def fetch_sessions(
+        self, columns: str, order: str, station: str | None = None, last: date | None = None
+    ) -> list[Row]:
         """These columns of the transactions of the site, or of one of its stations: of those that began on the tables'
-        day."""
+        day, or on a day from it to the last one."""
         text, values = "", dict[str, Any]()
         if station is not None:
             text, values = " and s.station = :station", {"station": station}
         if self.day is not None:
-            since, until = self.find_span()
+            since, until = self.calendar.begin(self.day), self.calendar.end(last or self.day)
             # By the first two an index finds them.
             text += (
-                " and s.last_at >= :since and s.first_at < :until"
+                " and s.last_day >= :day and s.first_at < :until"
                 " and coalesce(s.began, s.first_at) >= :since and coalesce(s.began, s.first_at) < :until"
             )
-            values |= {"since": since, "until": until}
+            values |= {"since": since, "until": until, "day": count_days(since)}
         return self.store.fetch(
             f"select {columns} from session s left join station t on t.station = s.station "
             f"where s.site = :site and s.events > 0{text} {order}",
@@ -266,61 +270,72 @@ class SiteTables:
     def write_periods(self, stations: Iterable[str] | None = None) -> None:
         """Writes the table of periods. `stations`: those of which something changed, where the book has the others.
         Raises OSError."""
+        if stations is None:
+            self.put_periods(self.list_periods())
+        else:
+            self.put_day(self.book.read_periods(self, stations))
+
+    def put_day(self, day: "DayPeriods") -> None:
+        """Writes the table of periods of a day that was read. Raises OSError."""
+        site = self.write_rows("site", "", "", day.list_sums(), None)
+        self.put_periods(chain(site, day.texts.values()))
+
+    def put_periods(self, rows: Iterable[str]) -> None:
+        """Writes the table of periods of these rows. Raises OSError."""
         zones = ["UTC"] if self.calendar.is_utc else ["UTC", self.site.zone]
         times = [f"period {end} ({zone})" for end in ("start", "end") for zone in zones]
         heads = ["level", "site", "station", "EVSE", "seconds", *times, "period", *FLOWS]
         heads += ["net (kWh)", "figure", "shared by time (kWh)", "numbers missing"]
-        heads += ["readings", "settle"]
-        if stations is None:
-            write_csv(self.path("periods"), heads, self.list_periods())
-            return
-        day = self.book.read_periods(self, stations)
-        site = self.write_rows("site", "", "", day.list_sums(), None)
-        write_csv(self.path("periods"), heads, site, day.texts.values())
+        write_csv(self.path("periods"), [*heads, "readings", "settle"], (), rows)
 
-    def list_periods(self) -> Iterator[list[Cell]]:
+    def list_periods(self) -> Iterator[str]:
         """The rows of the table of periods: those of the site, then each station's and its EVSEs'."""
-        site = self.fetch_periods("starts")
+        site = self.fetch_site_periods()
         starts = self.list_starts(site) if self.options.all_periods else None
         yield from self.write_rows("site", "", "", site, starts)
         for station in self.list_stations():
-            yield from self.list_station(station, starts)
+            yield from self.write_station(station, self.fetch_evse_periods(station), starts)
 
-    def list_station(
-        self,
-        station: str,
-        starts: Sequence[datetime] | None = None,
-        rows: Sequence[Row] | None = None,
-    ) -> Iterator[list[Cell]]:
-        """The rows of a station and of its EVSEs. `starts`: as in `write_rows`; `rows`: what was read of it."""
-        rows = self.fetch_periods("starts", station) if rows is None else rows
-        evses = group_rows(
-            self.fetch_periods("evse, starts", station) if rows else [], lambda row: row.evse
-        )
-        yield from self.write_rows("station", station, "", rows, starts)
-        for evse, some in evses.items():
+    def write_station(
+        self, station: str, rows: Sequence[Row], starts: Sequence[datetime] | None = None
+    ) -> Iterator[str]:
+        """The rows of a station and of its EVSEs. `rows`: what was read of these; `starts`: as in `write_rows`."""
+        yield from self.write_rows("station", station, "", sum_starts(rows), starts)
+        for evse, some in group_rows(rows, attrgetter("evse")).items():
             yield from self.write_rows("EVSE", station, evse, some, starts)
 
-    def fetch_periods(self, columns: str, station: str | None = None) -> list[Row]:
-        """The energy of the periods of the site or of a station, by these columns."""
+    def fetch_site_periods(self) -> list[Row]:
+        """The energy of the periods of the site."""
         text, values = self.span_of_rows()
-        if station is not None:
-            text, values = f"and station = :station {text}", values | {"station": station}
         return self.store.fetch(
-            f"select {columns}, cast(sum(up) as bigint) as up, cast(sum(down) as bigint) as down, "
+            "select starts, cast(sum(up) as bigint) as up, cast(sum(down) as bigint) as down, "
             "cast(sum(export_up) as bigint) as export_up, "
             "cast(sum(export_down) as bigint) as export_down, max(estimated) as estimated, "
             "cast(sum(shared) as bigint) as shared, max(lacks_numbers) as lacks_numbers "
-            f"from evse_period where site = :site {text} group by {columns} order by {columns}",
+            f"from evse_period where site = :site {text} group by starts order by starts",
             site=self.site.site,
             **values,
         )
 
-    def span_of_rows(self) -> tuple[str, dict[str, Any]]:
-        """What keeps periods to the days that are shown, and its values."""
+    def fetch_evse_periods(self, station: str, last: date | None = None) -> list[Row]:
+        """The energy of the periods of a station's EVSEs: of the tables' day, or of the days from it to the last one.
+        Those of days are found by the index by station and time, and not by that of the site, which has all years.
+        """
+        text, values = self.span_of_rows(last)
+        site = "site" if self.day is None else "site || ''"
+        return self.store.fetch(
+            "select evse, starts, up, down, export_up, export_down, estimated, shared, lacks_numbers "
+            f"from evse_period where {site} = :site and station = :station {text} order by evse, starts",
+            site=self.site.site,
+            station=station,
+            **values,
+        )
+
+    def span_of_rows(self, until: date | None = None) -> tuple[str, dict[str, Any]]:
+        """What keeps periods to the days that are shown, and its values. `until`: the last one, if it is another."""
         first, last = self.options.first, self.options.last
         if self.day:
-            first = last = self.day
+            first, last = self.day, until or self.day
         texts, values = list[str](), dict[str, Any]()
         if first != date.min:
             texts.append("and starts >= :since")
@@ -366,57 +381,56 @@ class SiteTables:
         level: str,
         station: str,
         evse: Cell,
-        rows: Sequence[Row],
+        rows: Iterable[Row],
         starts: Sequence[datetime] | None,
-    ) -> Iterator[list[Cell]]:
-        """The rows of a site, a station or an EVSE. `starts`: the beginnings of all periods, where those without energy
-        are there, too."""
+    ) -> Iterator[str]:
+        """The rows of a site, a station or an EVSE as text. `starts`: the beginnings of all periods, where those
+        without energy are there, too."""
         site, seconds = self.cell(self.site.site), self.site.period
-        front: list[Cell] = [level, site, self.cell(station), evse, seconds]
-        last = [self.order, self.site.settle]
-        nothing: list[Cell] = [*write_flow(0, 0, 0, 0), "0", "measured", "0", "no", *last]
-        found = {row.starts: row for row in rows}
-        for start in found if starts is None else starts:
-            row = found.get(start)
-            if row is None:
-                yield [*front, *self.period_cells(start), *nothing]
+        front = write_text([[level, site, self.cell(station), evse, seconds]]).rstrip("\n")
+        end = f"{self.order},{self.site.settle}\n"
+        if starts is not None:
+            found = {row.starts: row for row in rows}
+            rows = [found.get(start) or NO_PERIOD._replace(starts=start) for start in starts]
+        for row in rows:
+            if starts is None and is_still(row):
                 continue
-            flow = row.up, row.down, row.export_up, row.export_down
-            if starts is None and not (any(flow) or row.shared or row.lacks_numbers):
-                continue
-            how: list[Cell] = [
-                "estimated" if row.estimated else "measured",
-                write_signed_kwh(int(row.shared or 0)),
-                "yes" if row.lacks_numbers else "no",
-            ]
-            cells = [*write_flow(*flow), write_signed_kwh(find_net(row)), *how, *last]
-            yield [*front, *self.period_cells(start), *cells]
-
-    def period_cells(self, start: datetime) -> list[str]:
-        """When a period begins and ends, and its label."""
-        return write_period(self.calendar, start, self.site.period)
+            times = write_period(self.calendar, row.starts, seconds)
+            figures = write_figures(row.up, row.down, row.export_up, row.export_down)
+            figure = "estimated" if row.estimated else "measured"
+            lacks = "yes" if row.lacks_numbers else "no"
+            yield (f"{front},{times},{figures},{figure},{write_kwh(row.shared)},{lacks},{end}")
 
     # Transactions -----------------------------------------------------------------------------------------------------
 
     def write_transactions(self, stations: Iterable[str] | None = None) -> None:
         """Writes the table of transactions. `stations`: as in `write_periods`. Raises OSError."""
+        if stations is None:
+            self.put_transactions(self.list_transactions())
+        else:
+            self.put_transactions((), self.book.read_transactions(self, stations))
+
+    def put_transactions(self, rows: Iterable[list[Cell]], texts: Iterable[str] = ()) -> None:
+        """Writes the table of transactions of these rows, and of those that are text. Raises OSError."""
         ends = [head for name in ("start", "end") for head in self.moment_heads(name)]
         heads = ["site", "station", "transaction", "EVSE (0: not named)", "events", "first seqNo"]
-        heads += ["last seqNo", "complete", "missing", "gaps (from..to)", *FLOWS, "state"]
+        heads += ["last seqNo", "messages complete", "missing", "gaps (from..to)", *FLOWS, "state"]
         heads += ["net (kWh)", *ends, "duration (s)", "first register (kWh)", "last register (kWh)"]
         heads += ["first export register (kWh)", "last export register (kWh)", "stopped reason"]
-        heads += ["findings", *BILL_HEADS, "readings"]
-        if stations is None:
-            write_csv(self.path("transactions"), heads, self.list_transactions())
-            return
-        write_csv(self.path("transactions"), heads, (), self.book.read_transactions(self, stations))
+        heads += ["findings", *BILL_HEADS, "readings", "energy measured"]
+        write_csv(self.path("transactions"), heads, rows, texts)
 
     def list_transactions(self, station: str | None = None) -> Iterator[list[Cell]]:
         """The rows of the table of transactions, or those of a station."""
+        return self.write_sessions(self.fetch_sessions("s.*", SESSION_ORDER, station), station)
+
+    def write_sessions(
+        self, rows: Iterable[Row], station: str | None = None
+    ) -> Iterator[list[Cell]]:
+        """The rows of transactions. `station`: the one that all are of."""
         findings = self.book.read(self.site.site, station)
         found = group_rows(findings, lambda row: (row.station, row.transaction_id))
-        order = "order by coalesce(t.place, 0), s.station, s.transaction_id"
-        for row in self.fetch_sessions("s.*", order, station):
+        for row in rows:
             yield self.write_transaction(row, found.get((row.station, row.transaction_id), []))
 
     def write_transaction(self, row: Row, found: Sequence[Row]) -> list[Cell]:
@@ -438,7 +452,7 @@ class SiteTables:
             *(row.evse, row.events, row.first_number, row.last_number),
             *("yes" if row.complete else "no", row.missing, row.gaps),
             *write_flow(row.up, row.down, row.export_up, row.export_down),
-            *(row.state, write_signed_kwh(find_net(row))),
+            *(row.state, write_kwh(find_net(row))),
             *self.moments(row.began),
             *self.moments(row.ended),
             seconds,
@@ -446,7 +460,8 @@ class SiteTables:
             self.cell(row.stopped_reason),
             "; ".join(kinds),
             *map(self.cell, self.write_bill(row)),
-            self.order,
+            f"by {row.own_order}" if row.own_order else self.order,
+            describe_measured(row),
         ]
 
     def write_bill(self, row: Row) -> list[str]:
@@ -462,11 +477,40 @@ class SiteTables:
         how many. Raises OSError."""
         order = "and s.signed <> '' order by s.station, s.transaction_id"
         rows = self.fetch_sessions("s.station, s.sent_id, s.signed", order, station)
-        folder = self.folder / "signed"
+        return self.put_signed(rows)
+
+    def put_signed(self, rows: Sequence[Row]) -> int:
+        """Writes the files of signed values of these transactions, and gives how many. Raises OSError."""
         for row in rows:
             details = [Details(signed=tuple(read_signed(row.signed)))]
-            write_signed(folder, row.station, row.sent_id, details)
+            write_signed(self.folder / "signed", row.station, row.sent_id, details)
         return len(rows)
+
+    # Days -------------------------------------------------------------------------------------------------------------
+
+    def write_days(self, days: Sequence[date]) -> int:
+        """Writes the tables of some days, which are read at once, and gives how many. These tables have the first of
+        them. Raises OSError."""
+        calendar, last, order = self.calendar, days[-1], SESSION_ORDER
+        own = {day: self.take_day(day) for day in days}
+        periods = {day: DayPeriods() for day in days}
+        for station in self.list_stations():
+            rows = self.fetch_evse_periods(station, last)
+            for day, some in group_rows(rows, lambda row: calendar.day(row.starts)).items():
+                if day in own:
+                    text = "".join(own[day].write_station(station, some))
+                    periods[day].put(station, sum_starts(some), text)
+        sessions = self.fetch_sessions("s.*", order, last=last)
+        begun = group_rows(sessions, lambda row: calendar.day(row.began or row.first_at))
+        for day, tables in own.items():
+            tables.put_day(periods[day])
+            tables.put_transactions(tables.write_sessions(begun.get(day, [])))
+        self.put_signed([row for row in sessions if row.signed])
+        return 2 * len(days)
+
+    def take_day(self, day: date) -> "SiteTables":
+        """The tables of a day."""
+        return SiteTables(self.store, self.out, self.site, self.options, day, self.book)
 
     # Findings and what changed nothing --------------------------------------------------------------------------------
 
@@ -535,14 +579,43 @@ class PeriodSum(NamedTuple):
     them are estimated or lack numbers."""
 
     starts: datetime
-    rows: int
-    up: int
-    down: int
-    export_up: int
-    export_down: int
-    estimated: int
-    shared: int
-    lacks_numbers: int
+    rows: int = 0
+    up: int = 0
+    down: int = 0
+    export_up: int = 0
+    export_down: int = 0
+    estimated: int = 0
+    shared: int = 0
+    lacks_numbers: int = 0
+
+
+NO_PERIOD = PeriodSum(NO_TIME)
+
+
+def add_row(had: Row, row: Row, times: int = 1) -> PeriodSum:
+    """The sum of rows of periods with another row, or without it."""
+    return PeriodSum(
+        row.starts,
+        had.rows + times,
+        had.up + times * row.up,
+        had.down + times * row.down,
+        had.export_up + times * row.export_up,
+        had.export_down + times * row.export_down,
+        had.estimated + times * row.estimated,
+        had.shared + times * row.shared,
+        had.lacks_numbers + times * row.lacks_numbers,
+    )
+
+
+def sum_starts(rows: Sequence[Row]) -> Sequence[Row]:
+    """The sums of the rows of EVSEs by their beginnings."""
+    if not rows or rows[0].evse == rows[-1].evse:
+        # By EVSE, those of one only.
+        return rows
+    sums = dict[datetime, PeriodSum]()
+    for row in rows:
+        sums[row.starts] = add_row(sums.get(row.starts, NO_PERIOD), row)
+    return [sums[start] for start in sorted(sums)]
 
 
 class DayPeriods:
@@ -551,10 +624,10 @@ class DayPeriods:
 
     def __init__(self) -> None:
         self.texts: dict[str, str] = {}
-        self.rows: dict[str, list[Row]] = {}
+        self.rows: dict[str, Sequence[Row]] = {}
         self.sums: dict[datetime, PeriodSum] = {}
 
-    def put(self, station: str, rows: list[Row], text: str) -> None:
+    def put(self, station: str, rows: Sequence[Row], text: str) -> None:
         """Has these rows of a station."""
         for row in self.rows.get(station, []):
             self.add(row, -1)
@@ -564,12 +637,7 @@ class DayPeriods:
 
     def add(self, row: Row, times: int) -> None:
         """Adds a row to the sums, or takes it from them."""
-        had = self.sums.get(row.starts, PeriodSum(row.starts, 0, 0, 0, 0, 0, 0, 0, 0))
-        flow = row.up, row.down, row.export_up, row.export_down
-        more = (1, *flow, row.estimated, row.shared, row.lacks_numbers)
-        self.sums[row.starts] = PeriodSum(
-            row.starts, *(a + times * b for a, b in zip(had[1:], more))
-        )
+        self.sums[row.starts] = add_row(self.sums.get(row.starts, NO_PERIOD), row, times)
 
     def list_sums(self) -> list[PeriodSum]:
         """The sums over all stations, by their beginnings."""
@@ -601,8 +669,9 @@ class Book:
         names = stations if key in self.days else tables.list_stations()
         day = self.days.setdefault(key, DayPeriods())
         for station in names:
-            rows = tables.fetch_periods("starts", station)
-            day.put(station, rows, write_text(tables.list_station(station, None, rows)))
+            rows = tables.fetch_evse_periods(station)
+            text = "".join(tables.write_station(station, rows))
+            day.put(station, sum_starts(rows), text)
         self.days.move_to_end(key)
         if len(self.days) > MOST_DAYS:
             self.days.popitem(last=False)
@@ -657,8 +726,14 @@ def write_refusal(row: Row, raw: bool) -> list[Cell]:
     """The cells of what was refused."""
     texts = (row.site, row.station, row.sent_id, row.sent_number or "")
     front: list[Cell] = [write_utc(row.first_at), write_utc(row.last_at), row.times]
-    words = (*texts, row.cause, row.what, row.advice)
+    words = (*texts, row.cause, row.what, row.advice, describe_decision(row))
     return front + [text if raw else csv_cell(text) for text in words]
+
+
+def describe_decision(row: Row) -> str:
+    """What somebody decided about what was refused; empty while it waits."""
+    why = f": {row.decided_why}" if row.decided_why else ""
+    return f"{row.decision} by {row.decided_by}{why}" if row.decided_by else str(row.decision)
 
 
 def read_signed(text: str) -> list[Signed]:
@@ -676,10 +751,23 @@ def group_rows(rows: Iterable[Row], key: Callable[[Row], Any]) -> dict[Any, list
 
 
 @lru_cache(KEPT)
-def write_period(calendar: Calendar, start: datetime, seconds: int) -> list[str]:
+def write_period(calendar: Calendar, start: datetime, seconds: int) -> str:
     """When a period begins and ends, and its label."""
     end = start + timedelta(seconds=seconds)
-    return [*calendar.cells(start), *calendar.cells(end), calendar.label(start)]
+    return ",".join([*calendar.cells(start), *calendar.cells(end), calendar.label(start)])
+
+
+def write_figures(up: int, down: int, export_up: int, export_down: int) -> str:
+    """The energies of a period, and the net one."""
+    imported = f"{up},{down},{write_kwh(up)},{write_kwh(down)}"
+    exported = f"{export_up},{export_down},{write_kwh(export_up)},{write_kwh(export_down)}"
+    return f"{imported},{exported},{write_kwh(up - down - export_up + export_down)}"
+
+
+def is_still(row: Row) -> bool:
+    """Whether a period has no energy, and lacks nothing."""
+    has_flow = row.up or row.down or row.export_up or row.export_down
+    return not (has_flow or row.shared or row.lacks_numbers)
 
 
 def write_tables(

@@ -12,7 +12,7 @@ from collections.abc import Iterator
 from typing import Any
 
 NONE, HASH, PLAIN = TOKENS = ("none", "hash", "plain")
-# What stands in place of a token.
+# What is in place of a token.
 HIDDEN, CUT = "***", "... (cut: there may be a token)"
 MEMBERS = frozenset(["idtoken", "additionalidtoken", "groupidtoken", "idtag", "parentidtag"])
 STRING = re.compile(r'"(?:[^"\\]|\\.)*+"')
@@ -50,9 +50,15 @@ def find_tokens(value: Any) -> Iterator[str]:
             yield from find_tokens(inner)
 
 
+def may_have_token(text: str) -> bool:
+    """Whether a message may have a token."""
+    small = text.lower()
+    return ("token" in small or "tag" in small or "\\u" in small) and bool(HINT.search(text))
+
+
 def hide_tokens(text: str, how: str) -> str:
     """Hides the tokens in a message, whose other bytes stay. `how`: one of TOKENS."""
-    if how == PLAIN or not HINT.search(text):
+    if how == PLAIN or not may_have_token(text):
         return text
     begin = text.find("[")
     try:

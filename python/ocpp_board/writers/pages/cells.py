@@ -1,6 +1,7 @@
 """What tables of pages are made of: columns, rows, links, moments, energies and powers."""
 
 from collections.abc import Iterable, Sequence
+from functools import lru_cache
 from typing import NamedTuple
 
 from markupsafe import Markup, escape
@@ -14,6 +15,8 @@ HOUR = 3_600
 ROLES = ("table", "rowgroup", "row", "columnheader", "rowheader", "cell")
 # Ranges of missing numbers in a cell.
 MOST_RANGES = 20
+# Tables whose heads and patterns of rows are kept.
+KEPT_PATTERNS = 256
 
 
 class Column(NamedTuple):
@@ -116,33 +119,55 @@ def draw_bar(mwh: int, most: int) -> Markup:
 
 
 def write_table(
-    caption: str, columns: Sequence[Column], rows: Sequence[TableRow], kind: str = "cards"
+    caption: str,
+    columns: Sequence[Column],
+    rows: Sequence[TableRow] | Markup,
+    kind: str = "cards",
 ) -> Markup:
     """Writes a table. On a phone the style makes a card of each row of a table of cards, and the roles keep it a
-    table."""
-    cards = kind == "cards"
-    roles = {name: f' role="{name}"' if cards else "" for name in ROLES}
+    table. `rows`: rows, or what `write_rows` made of them."""
+    head = write_heads(tuple(columns), kind)
+    body = rows if isinstance(rows, Markup) else write_rows(columns, rows, kind)
+    role = ' role="table"' if kind == "cards" else ""
+    return Markup(
+        f'<table{role} class="{kind}">\n<caption>{escape(caption)}</caption>\n{head}{body}</tbody>\n</table>\n'
+    )
+
+
+def write_rows(columns: Sequence[Column], rows: Iterable[TableRow], kind: str = "cards") -> Markup:
+    """Writes the rows of a table."""
+    pattern = make_pattern(tuple(columns), kind)
+    return Markup(
+        "".join([pattern % (name_class(row.kind), *map(escape, row.cells)) for row in rows])
+    )
+
+
+@lru_cache(KEPT_PATTERNS)
+def write_heads(columns: tuple[Column, ...], kind: str) -> str:
+    """Writes what is above the rows of a table."""
+    roles = {name: f' role="{name}"' if kind == "cards" else "" for name in ROLES}
     heads = (
         f'<th{roles["columnheader"]} scope="col"{name_class(column.kind)}>{write_head(column)}</th>'
         for column in columns
     )
-    cells = [
-        f'<td{roles["cell"]}{name_class(column.kind)}'
+    return (
+        f'<thead{roles["rowgroup"]}><tr{roles["row"]}>{"".join(heads)}</tr></thead>\n'
+        f'<tbody{roles["rowgroup"]}>\n'
+    )
+
+
+@lru_cache(KEPT_PATTERNS)
+def make_pattern(columns: tuple[Column, ...], kind: str = "cards") -> str:
+    """Makes the pattern of a row: `%` puts its class there, as `name_class` has it, and its cells, which are HTML."""
+    cards = kind == "cards"
+    row, head, cell = (f' role="{name}"' if cards else "" for name in ("row", "rowheader", "cell"))
+    cells = (
+        f"<td{cell}{name_class(column.kind)}"
         + (f' data-head="{escape(column.text)}"' if cards else "")
         for column in columns[1:]
-    ]
-    texts = [
-        f'<table{roles["table"]} class="{kind}">\n<caption>{escape(caption)}</caption>\n',
-        f'<thead{roles["rowgroup"]}><tr{roles["row"]}>{"".join(heads)}</tr></thead>\n',
-        f'<tbody{roles["rowgroup"]}>\n',
-    ]
-    head = f'<th{roles["rowheader"]} scope="row">'
-    for row in rows:
-        texts.append(f'<tr{roles["row"]}{name_class(row.kind)}>{head}{escape(row.cells[0])}</th>')
-        texts += (f"{cell}>{escape(text)}</td>" for cell, text in zip(cells, row.cells[1:]))
-        texts.append("</tr>\n")
-    texts.append("</tbody>\n</table>\n")
-    return Markup("".join(texts))
+    )
+    rest = "".join(f"{one.replace('%', '%%')}>%s</td>" for one in cells)
+    return f'<tr{row}%s><th{head} scope="row">%s</th>{rest}</tr>\n'
 
 
 def name_class(kind: str) -> str:

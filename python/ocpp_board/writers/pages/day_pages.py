@@ -2,7 +2,7 @@
 
 from collections.abc import Iterable, Sequence
 from dataclasses import dataclass
-from datetime import date
+from datetime import date, timedelta
 
 from markupsafe import Markup
 
@@ -17,8 +17,9 @@ from ocpp_board.writers.pages.cells import (
     write_flow,
     write_kw,
 )
-from ocpp_board.writers.pages.context import Context, DayFacts, find_peak
-from ocpp_board.writers.pages.facts import Found, Period, SessionFacts, Site
+from ocpp_board.writers.pages.context import Context
+from ocpp_board.writers.pages.day_book import DayFacts, find_peak
+from ocpp_board.writers.pages.facts import Found, Period, Site
 from ocpp_board.writers.pages.lanes import MOST_LANES, draw_lanes, group_lanes
 from ocpp_board.writers.pages.month_pages import make_day_columns, write_peak
 from ocpp_board.writers.pages.pictures import Scale, draw_day
@@ -38,7 +39,7 @@ class DayPart:
     peak: Markup
     picture: Markup
     heads: Sequence[str]
-    rows: Sequence[tuple[str, Sequence[str], str]]
+    rows: Markup
 
 
 def has_export(periods: Sequence[Period]) -> bool:
@@ -61,7 +62,7 @@ def make_day(whose: str, day: date, periods: Sequence[Period], calendar: Calenda
         write_peak(find_peak(periods), calendar),
         draw_day(label, day, periods, Scale(p.flow for p in periods), calendar),
         make_heads(calendar, exports),
-        [make_period_row(p, calendar, exports) for p in periods],
+        Markup("".join([write_period(p, calendar, exports) for p in periods])),
     )
 
 
@@ -71,26 +72,26 @@ def make_heads(calendar: Calendar, exports: bool) -> list[str]:
     return [f"Period ({calendar.name})", *utc, *name_flows(exports), "kW", "Figure"]
 
 
-def make_period_row(p: Period, calendar: Calendar, exports: bool) -> tuple[str, Sequence[str], str]:
-    """Makes the row of a period: when it is, its other cells, and what is doubtful."""
+def write_period(p: Period, calendar: Calendar, exports: bool) -> str:
+    """Writes the row of a period: when it is, its other cells, and what is doubtful. It leaves out what HTML lets be
+    left out."""
     cells = [] if calendar.is_utc else [f"{p.start:%H:%M}"]
     cells += [*write_flow(p.flow, exports), write_kw(p.flow.net, p.seconds)]
     doubts = [] if p.measured else ["estimated"]
     doubts += ["numbers missing"] if p.numbers_missing else []
-    return calendar.times(p.start, p.seconds), cells, ", ".join(doubts)
+    doubt = f'<td class="doubt">{", ".join(doubts)}' if doubts else "<td>"
+    times = calendar.times(p.start, p.seconds)
+    return f'<tr><th scope="row">{times}<td>{"<td>".join(cells)}{doubt}\n'
 
 
 def link_days(context: Context, site: Site, station: str | None, day: date) -> list[Markup]:
     """Links to the days beside a day, its month, and its site's page of the day."""
-    links, calendar = context.links, context.calendar(site)
-    month = day.replace(day=1)
+    links, month = context.links, day.replace(day=1)
     found = [link(links.month(site.name, station, month), f"{month:%B %Y}")]
     if station is not None:
         found.append(link(links.day(site.name, None, day), f"All stations on {day}"))
-    at = context.reader.next_moment(site.name, station, calendar.end(day))
-    after = calendar.day(at) if at else None
-    at = context.reader.moment_before(site.name, station, calendar.begin(day))
-    before = calendar.day(at) if at else None
+    after = context.book.find_from(site, station, day + timedelta(days=1))
+    before = context.book.find_before(site, station, day)
     for other, arrow in ((before, "\N{LEFTWARDS ARROW}"), (after, "\N{RIGHTWARDS ARROW}")):
         if other and context.is_shown(other):
             found.append(link(links.day(site.name, station, other), f"{arrow} {other} {other:%a}"))
@@ -119,9 +120,10 @@ def make_day_page(context: Context, site: Site, day: date, number: int = 1) -> t
     """Makes the page of a day of a site, and says how many stations it has. `number`: that of the page of these."""
     calendar = context.calendar(site)
     known = context.book.read_day(site, day)
-    stations, periods = known.facts, known.list_periods()
+    stations, periods = sorted(known.stations), known.list_periods()
     first = (number - 1) * MOST_STATIONS
-    shown = sorted(stations.items())[first : first + MOST_STATIONS]
+    names = stations[first : first + MOST_STATIONS]
+    shown = [(name, known.find_facts(name)) for name in names]
     exports = has_export(periods)
     sessions = known.list_sessions()
     lanes = group_lanes(sessions)
@@ -152,24 +154,13 @@ def link_pages(context: Context, site: Site, day: date, count: int) -> list[str]
     return [context.links.day(site.name, None, day, one + 1) for one in range(pages) if pages > 1]
 
 
-def list_day_sessions(
-    context: Context, site: Site, station: str, day: date
-) -> Sequence[SessionFacts]:
-    """Lists the sessions of a station on a day."""
-    known = context.book.days.get((site.name, day))
-    if known is not None:
-        return known.sessions.get(station, ())
-    calendar = context.calendar(site)
-    return context.reader.day_sessions(site.name, calendar.begin(day), calendar.end(day), station)
-
-
 def make_station_day_page(
     context: Context, site: Site, station: str, day: date, found: Iterable[Found]
 ) -> Markup:
     """Makes the page of a day of a station. `found`: the findings of the station."""
     calendar = context.calendar(site)
     periods = context.book.read_periods(site, station, day)
-    sessions = list_day_sessions(context, site, station, day)
+    sessions = context.book.list_sessions(site, station, day)
     shown = sessions[:MOST_SESSIONS]
     columns, rows = make_session_table(shown, group_findings(found), calendar, context.links)
     lanes = group_lanes(sessions)

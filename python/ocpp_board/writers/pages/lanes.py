@@ -14,11 +14,11 @@ from ocpp_board.writers.pages.pictures import (
     UNIT,
     Text,
     draw_paths,
+    draw_picture,
     list_hours,
     shorten,
     write_hours,
 )
-from ocpp_board.writers.pages.render import render
 
 # The height of a lane, and of the name above its bars.
 LANE, NAME = 16, 14
@@ -78,16 +78,8 @@ def draw_lanes(
             drawn[key] = draw_lane(lane, day, calendar, links)
         shapes.append(MOVED % (number * step + NAME) + drawn[key] + Markup("</g>"))
     names = [Text("0", number * step + NAME - 3, lane.name) for number, lane in enumerate(some)]
-    return render(
-        "picture.html",
-        label=label,
-        width=width,
-        height=height,
-        drawn=height,
-        top=0,
-        shapes=Markup("").join(shapes),
-        texts=[*names, *write_hours(calendar, day, height)],
-    )
+    texts = [*names, *write_hours(calendar, day, height)]
+    return draw_picture(label, width, height, Markup("").join(shapes), texts)
 
 
 def draw_lane(lane: Lane, day: date, calendar: Calendar, links: Links) -> Markup:

@@ -1,7 +1,6 @@
 """Where pages are: files beside each other, or addresses of a server."""
 
 from datetime import date
-from pathlib import PurePosixPath
 from typing import Protocol
 from urllib.parse import quote
 
@@ -30,7 +29,10 @@ class Links(Protocol):
         """The page of a transaction."""
 
     def listing(self, site: str, name: str, number: int = 1) -> str:
-        """The page of a list of a site: stations, findings, lacking, refused or deeds."""
+        """The page of a list of a site: stations, findings, lacking, refused, deeds or closings."""
+
+    def closing(self, site: str, number: int) -> str:
+        """The page of a closing of a site."""
 
     def operate(self, site: str, station: str, transaction_id: str) -> str:
         """Where an operator voids events of a transaction; empty where nobody can."""
@@ -76,13 +78,17 @@ class FilePaths:
         """The page of a list of a site."""
         return f"{name_file(site)}/{number_page(name, number)}"
 
+    def closing(self, site: str, number: int) -> str:
+        """The page of a closing of a site."""
+        return f"{name_file(site)}/closing-{number}.html"
+
 
 class FileLinks:
     """The same as a page links to them that is in a folder below."""
 
     def __init__(self, path: str) -> None:
         """`path`: that of the page with the links."""
-        self.up, self.paths = "../" * (len(PurePosixPath(path).parts) - 1), FilePaths()
+        self.up, self.paths = "../" * path.count("/"), FilePaths()
 
     def lead(self, path: str) -> str:
         """Leads to a file."""
@@ -115,6 +121,10 @@ class FileLinks:
     def listing(self, site: str, name: str, number: int = 1) -> str:
         """The page of a list of a site."""
         return self.lead(self.paths.listing(site, name, number))
+
+    def closing(self, site: str, number: int) -> str:
+        """The page of a closing of a site."""
+        return self.lead(self.paths.closing(site, number))
 
     def operate(self, site: str, station: str, transaction_id: str) -> str:
         """Nobody voids events by a file."""
@@ -156,6 +166,10 @@ class WebLinks:
     def listing(self, site: str, name: str, number: int = 1) -> str:
         """The page of a list of a site."""
         return f"{self.site(site)}/{name}" + (f"?page={number}" if number > 1 else "")
+
+    def closing(self, site: str, number: int) -> str:
+        """The page of a closing of a site."""
+        return f"{self.site(site)}/closing/{number}"
 
     def operate(self, site: str, station: str, transaction_id: str) -> str:
         """Where an operator voids events of a transaction."""

@@ -21,7 +21,8 @@ from ocpp_board.writers.pages.cells import (
     write_flow,
     write_kw,
 )
-from ocpp_board.writers.pages.context import NO_DAY, Context, DayFacts, list_days
+from ocpp_board.writers.pages.context import Context
+from ocpp_board.writers.pages.day_book import NO_DAY, DayFacts, list_days
 from ocpp_board.writers.pages.facts import Period, Site
 from ocpp_board.writers.pages.months import draw_month, draw_week, group_weeks
 from ocpp_board.writers.pages.pictures import Scale
@@ -69,15 +70,13 @@ def find_months(context: Context, site: Site, station: str | None) -> list[date]
     known = context.book.months
     if (site.name, station) in known:
         return known[site.name, station]
-    found, calendar = list[date](), context.calendar(site)
-    since = calendar.begin(max(context.options.first, date(2000, 1, 1)))
+    found, since = list[date](), max(context.options.first, date(2000, 1, 1))
     while len(found) < MOST_MONTHS:
-        at = context.reader.next_moment(site.name, station, since)
-        if at is None or not context.is_shown(calendar.day(at)):
+        day = context.book.find_from(site, station, since)
+        if day is None or not context.is_shown(day):
             break
-        month = calendar.day(at).replace(day=1)
-        found.append(month)
-        since = calendar.begin(next_month(month))
+        found.append(day.replace(day=1))
+        since = next_month(day)
     if context.book.keeps:
         known[site.name, station] = found
     return found
@@ -92,12 +91,11 @@ def find_days(
         for day, facts in context.book.month(site, station, month).items()
         if context.is_shown(day)
     }
-    calendar, empty = context.calendar(site), list_days(month)
+    empty = list_days(month)
     while empty := [day for day in empty if day not in known]:
-        at = context.reader.next_moment(site.name, station, calendar.begin(empty[0]))
-        if at is None or at >= calendar.end(empty[-1]):
+        day = context.book.find_from(site, station, empty[0])
+        if day is None or day > empty[-1]:
             break
-        day = calendar.day(at)
         if day in empty and context.is_shown(day):
             known[day] = NO_DAY
         empty = [one for one in empty if one > day]
@@ -144,7 +142,10 @@ def make_month(context: Context, site: Site, station: str | None, month: date) -
     calendar = context.calendar(site)
     first, last = min(days), max(days)
     shown = [first + timedelta(days=n) for n in range((last - first).days + 1)]
-    hours = [hour for facts in days.values() for hour in facts.hours]
+    rows = [
+        context.book.find_heat(site, station, day, days[day] if day in days else NO_DAY)
+        for day in shown
+    ]
     label = f"Days of {month:%B %Y} by hours, the stronger the more energy. The table has the days."
     peaks = [facts.peak for facts in days.values() if facts.peak]
     peak = max(peaks, key=lambda p: p.flow.net, default=None)
@@ -154,7 +155,7 @@ def make_month(context: Context, site: Site, station: str | None, month: date) -
     exports = has_export(days)
     return MonthPart(
         f"{month:%B %Y}",
-        draw_month(label, shown, hours, calendar),
+        draw_month(label, rows),
         make_day_columns("Day", exports, 3),
         make_day_rows(context, site, station, days, exports),
         join(said, ", "),

@@ -1,6 +1,6 @@
 """A month as a heat map of its days by hours with a bar for each day, and a week as the bars of its hours."""
 
-from collections.abc import Iterable, Iterator, Sequence
+from collections.abc import Iterable, Sequence
 from datetime import date, datetime, timedelta
 from itertools import groupby
 
@@ -18,9 +18,9 @@ from ocpp_board.writers.pages.pictures import (
     Text,
     draw_bars,
     draw_lines,
+    draw_picture,
     shorten,
 )
-from ocpp_board.writers.pages.render import render
 
 # Shades of a heat map, and seconds of a unit of a week's picture.
 SHADES, UNIT = 5, 300
@@ -34,22 +34,12 @@ def group_weeks(days: Iterable[date]) -> list[tuple[date, list[date]]]:
     return [(week, list(some)) for week, some in weeks]
 
 
-def join_hours(periods: Iterable[Period]) -> list[Period]:
-    """Joins periods to the hours in which they begin."""
+def join_hours(periods: Iterable[Period], calendar: Calendar) -> list[Period]:
+    """Joins periods to the hours of the zone in which they begin."""
     found: dict[datetime, list[Flow]] = {}
     for p in periods:
-        found.setdefault(p.start.replace(minute=0), []).append(p.flow)
+        found.setdefault(calendar.hour(p.start), []).append(p.flow)
     return [Period(start, HOUR, sum_of(flows)) for start, flows in sorted(found.items())]
-
-
-def place_hours(hours: Iterable[Period], calendar: Calendar) -> dict[tuple[date, int], Flow]:
-    """Finds the day and the hour of the day of hours; one that comes twice is one."""
-    found: dict[tuple[date, int], Flow] = {}
-    for p in hours:
-        local = calendar.local(p.start)
-        key = local.date(), local.hour
-        found[key] = found[key].plus(p.flow) if key in found else p.flow
-    return found
 
 
 def choose_shade(mwh: int, most: int) -> str:
@@ -64,47 +54,62 @@ def draw_cell(kind: str, x: int, y: int, width: int | str, height: int, said: st
     return f'<rect class="{kind}" {place}><title>{said}</title></rect>'
 
 
-def draw_month(
-    label: str, days: Sequence[date], periods: Iterable[Period], calendar: Calendar
-) -> Markup:
-    """Draws days by hours, the stronger the more energy, with a bar for each day. Each has its value. `periods`: hours
-    of these days."""
-    hours = place_hours(periods, calendar)
-    nets = dict.fromkeys(days, 0)
-    for (day, _), each in hours.items():
-        nets[day] += each.net
-    most = max((abs(flow.net) for flow in hours.values()), default=0)
-    longest = max((abs(net) for net in nets.values()), default=0)
-    height, wide = ROW * len(days), HOURS + SPACE + BARS
+class HeatRow:
+    """A day of a heat map: its net energy by hours of the day; an hour that comes twice is one."""
 
-    def cells() -> Iterator[str]:
-        for y, day in zip(range(0, height, ROW), days):
-            for hour in range(HOURS):
-                flow = hours.get((day, hour))
-                if flow and flow.net:
-                    said = f"{day:%a} {day} {hour:02}:00: {kwh(flow.net)} kWh"
-                    yield draw_cell(choose_shade(flow.net, most), hour, y, 1, ROW - 1, said)
-            if net := nets[day]:
-                width, kind = shorten(BARS * abs(net) / longest), "out" if net < 0 else "there"
-                said = f"{day:%a} {day}: {kwh(net)} kWh"
-                yield draw_cell(kind, HOURS + SPACE, y + 2, width, ROW - 4, said)
+    def __init__(self, day: date, hours: Iterable[Period], calendar: Calendar) -> None:
+        nets = dict[int, int]()
+        for p in hours:
+            hour = calendar.local(p.start).hour
+            nets[hour] = nets.get(hour, 0) + p.flow.net
+        self.day, self.said = day, f"{day:%a} {day}"
+        self.hours = sorted((hour, net) for hour, net in nets.items() if net)
+        self.net, self.most = sum(nets.values()), max(
+            (abs(net) for net in nets.values()), default=0
+        )
+        # Its hours as they were drawn, and with what.
+        self.drawn, self.drawn_with = "", (-1, -1)
 
+    def draw_hours(self, y: int, most: int) -> str:
+        """Draws its hours. `most`: the energy of the full shade."""
+        if self.drawn_with != (y, most):
+            self.drawn_with = y, most
+            self.drawn = "".join(
+                draw_cell(
+                    *(choose_shade(net, most), hour, y, 1, ROW - 1),
+                    f"{self.said} {hour:02}:00: {kwh(net)} kWh",
+                )
+                for hour, net in self.hours
+            )
+        return self.drawn
+
+    def draw_bar(self, y: int, longest: int) -> str:
+        """Draws its energy as a bar. `longest`: the energy of the longest one."""
+        if not self.net:
+            return ""
+        width, kind = shorten(BARS * abs(self.net) / longest), "out" if self.net < 0 else "there"
+        said = f"{self.said}: {kwh(self.net)} kWh"
+        return draw_cell(kind, HOURS + SPACE, y + 2, width, ROW - 4, said)
+
+
+def draw_month(label: str, rows: Sequence[HeatRow]) -> Markup:
+    """Draws days by hours, the stronger the more energy, with a bar for each day. Each has its value."""
+    most = max((row.most for row in rows), default=0)
+    longest = max((abs(row.net) for row in rows), default=0)
+    height, wide = ROW * len(rows), HOURS + SPACE + BARS
+    shapes = Markup(
+        "".join(
+            row.draw_hours(y, most) + row.draw_bar(y, longest)
+            for y, row in zip(range(0, height, ROW), rows)
+        )
+    )
     texts = [Text(f"{shorten(100 * hour / wide)}%", 12, f"{hour:02}:00") for hour in (0, 6, 12, 18)]
     texts.append(Text("100%", 12, "Day", "end"))
-    for row, day in enumerate(days):
-        texts.append(Text("-5", 18 + row * ROW + 11, f"{day:%a} {day.day}", "end"))
+    for place, row in enumerate(rows):
+        texts.append(Text("-5", 18 + place * ROW + 11, f"{row.day:%a} {row.day.day}", "end"))
     texts.append(Text("0", height + 32, f"Full shade: {kwh(most)} kWh an hour"))
     texts.append(Text("100%", height + 32, f"Longest: {kwh(longest)} kWh", "end"))
-    return render(
-        "picture.html",
-        label=label,
-        width=wide,
-        height=height + 36,
-        drawn=height,
-        top=18,
-        shapes=Markup("".join(cells())),
-        texts=texts,
-    )
+    return draw_picture(label, wide, height + 36, shapes, texts, height, 18)
 
 
 def draw_week(

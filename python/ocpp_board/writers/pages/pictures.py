@@ -6,13 +6,13 @@ from decimal import Decimal
 from functools import lru_cache
 from typing import NamedTuple
 
-from markupsafe import Markup
+from markupsafe import Markup, escape
 
 from ocpp_board.energies import MINUS, MWH_OF_A_KWH, Flow, kwh
 from ocpp_board.writers.calendar import Calendar
 from ocpp_board.writers.pages.cells import write_kw
 from ocpp_board.writers.pages.facts import Period
-from ocpp_board.writers.pages.render import make_piece, render
+from ocpp_board.writers.pages.render import make_piece
 
 # Seconds of one unit of a picture's width: every period has a whole number of tenths of its width.
 UNIT = 30
@@ -43,6 +43,14 @@ class Scale:
         self.zero = self.at(0)
         found = (one for one in self.UNITS if max(self.up, self.down) < self.LONG * one[1])
         self.unit, self.mwh = next(found, self.UNITS[-1])
+        self.ground = shorten(self.zero)
+        self.heights = dict[int, str]()
+
+    def find_height(self, mwh: int) -> str:
+        """Finds how high the bar of an energy is, in pixels."""
+        if mwh not in self.heights:
+            self.heights[mwh] = shorten(max(abs(self.at(mwh) - self.zero), 1.5))
+        return self.heights[mwh]
 
     def at(self, mwh: int) -> float:
         """Finds the height of an energy, in pixels from the top."""
@@ -89,12 +97,13 @@ def shorten(number: float) -> str:
     return f"{number:.1f}".removesuffix(".0")
 
 
-def draw_period(left: int, wide: int, p: Period, scale: Scale) -> Iterator[tuple[str, str]]:
+def draw_period(left: int, wide: int, p: Period, scale: Scale) -> list[tuple[str, str]]:
     """The parts of a period's bars, each with its kind; where it begins and how wide it is are in units."""
     flow, x = p.flow, left + wide // 10
     across = wide - 2 * (wide // 10)
     if not any(flow):
-        yield "still", f"M{x} {shorten(scale.zero)}h{across}"
+        return [("still", f"M{x} {scale.ground}h{across}")]
+    found = list[tuple[str, str]]()
     for side, parts in (
         (-1, (("up", flow.up), ("back", flow.export_down))),
         (1, (("down", flow.down), ("out", flow.export_up))),
@@ -102,10 +111,11 @@ def draw_period(left: int, wide: int, p: Period, scale: Scale) -> Iterator[tuple
         end = scale.zero
         for kind, mwh in parts:
             if mwh:
-                height = shorten(max(abs(scale.at(mwh) - scale.zero), 1.5))
+                height, at = scale.find_height(mwh), shorten(end)
                 sign = "-" if side < 0 else ""
-                yield kind, f"M{x} {shorten(end)}v{sign}{height}h{across}V{shorten(end)}z"
+                found.append((kind, f"M{x} {at}v{sign}{height}h{across}V{at}z"))
                 end += side * float(height)
+    return found
 
 
 @lru_cache(2)
@@ -162,19 +172,37 @@ def draw_bars(
         for kind, path in draw_period(one.left, one.wide, one.period, scale):
             kinds.setdefault(kind, []).append(path)
     still = {"still": kinds.pop("still")} if "still" in kinds else {}
-    kinds = kinds | {"zero": [f"M0 {shorten(scale.zero)}h{width}"]} | still
+    kinds = kinds | {"zero": [f"M0 {scale.ground}h{width}"]} | still
     marks = [Text("-5", shorten(scale.at(m) + 4), scale.label(m), "end") for m in scale.marks()]
     paths = [*(("grid", path) for path in grid), *((k, "".join(p)) for k, p in kinds.items())]
-    return render(
-        "picture.html",
-        label=label,
-        width=width,
-        height=PICTURE,
-        drawn=PICTURE,
-        top=0,
-        shapes=draw_paths(paths) + draw_hits(some),
-        texts=[Text("-5", "9", scale.unit, "end"), *marks, *below],
+    texts = [Text("-5", "9", scale.unit, "end"), *marks, *below]
+    return draw_picture(label, width, PICTURE, draw_paths(paths) + draw_hits(some), texts)
+
+
+def draw_picture(
+    label: str,
+    width: int,
+    height: int,
+    shapes: Markup,
+    texts: Iterable[Text],
+    drawn: int = 0,
+    top: int = 0,
+) -> Markup:
+    """Draws a picture as wide as the page lets it be, with texts that keep their size. `drawn`: how high the shapes
+    are, if not as the picture; `top`: where they begin."""
+    at, high = f' y="{top}"' if top else "", drawn or height
+    room = f'width="100%" height="{high}" viewBox="0 0 {width} {high}" preserveAspectRatio="none"'
+    return Markup(
+        f'<svg role="img" aria-label="{escape(label)}" width="100%" height="{height}">\n'
+        f"<svg{at} {room}>{shapes}</svg>\n"
+        f'{"".join(map(write_text, texts))}\n</svg>\n'
     )
+
+
+def write_text(one: Text) -> str:
+    """Writes a text of a picture."""
+    anchor = f' text-anchor="{one.anchor}"' if one.anchor else ""
+    return f'<text x="{one.x}" y="{one.y}"{anchor}>{escape(one.text)}</text>'
 
 
 def draw_paths(paths: Iterable[tuple[str, str]]) -> Markup:

@@ -1,21 +1,28 @@
 """What pages read of the store: rows of its views, by site, station, transaction and day."""
 
 import json
-from collections.abc import Sequence
+from collections import deque
+from collections.abc import Iterator, Sequence
 from datetime import datetime, timedelta, timezone
+from itertools import chain, groupby
+from operator import itemgetter
 from string import ascii_lowercase
 from typing import Any
 
 from ocpp_board.energies import Flow
-from ocpp_board.store.database import Database
+from ocpp_board.store.database import Database, count_days
 from ocpp_board.writers.pages.facts import (
     AnsweredDeed,
+    Closing,
+    Correction,
     Found,
     Lack,
     Period,
     RefusedText,
     SessionFacts,
     SessionLine,
+    SessionRecord,
+    Settled,
     Site,
     Totals,
 )
@@ -34,6 +41,13 @@ SESSION = (
 )
 REFUSED = "station, transaction_id, sent_number, cause, what, advice, times, first_at, last_at"
 DEED = "station, transaction_id, number, word, who, why, at, outcome, name"
+CLOSING = (
+    "closing, day, at, who, period, reading_order, settle, zone, sessions, complete_sessions, rule_sessions, net, "
+    "corrections, corrected"
+)
+LINE, LINE_COLUMNS = "number, received, line, who, why, origin", 6
+# Lines and refusals of a transaction that are read.
+MOST_LINES, MOST_REFUSED = 600, 200
 
 Row = Sequence[Any]
 
@@ -206,32 +220,34 @@ class Reader:
     def next_moment(self, site: str, station: str | None, since: datetime) -> datetime | None:
         """The first moment from one on at which a session of a site or of a station began or ended; None where there is
         none."""
-        found = list[datetime]()
-        for name in ("first_at", "last_at"):
-            sql = (
-                f"select min({name}) as {name} from session where site = :site and {name} >= :since"
-            )
-            rows = self.read_of(sql, site, station, "", since=since)
-            found += [rows[0][0]] if rows[0][0] is not None else []
-        return min(found, default=None)
+        values = {"since": since, "day": count_days(since)}
+        first = "select first_at as at from session where site = :site and first_at >= :since"
+        last = "select last_at as at from session where site = :site and last_day >= :day and last_at >= :since"
+        rows = self.read_of(first, site, station, " order by first_at limit 1", since=since)
+        rows += self.read_of(last, site, station, " order by last_day, last_at limit 1", **values)
+        return min((row[0] for row in rows), default=None)
 
     def moment_before(self, site: str, station: str | None, until: datetime) -> datetime | None:
         """The last moment before one at which a session of a site or of a station began or ended; None where there is
         none."""
-        found = list[datetime]()
-        for name in ("first_at", "last_at"):
-            sql = (
-                f"select max({name}) as {name} from session where site = :site and {name} < :until"
-            )
-            rows = self.read_of(sql, site, station, "", until=until)
-            found += [rows[0][0]] if rows[0][0] is not None else []
-        return max(found, default=None)
+        values = {"until": until, "day": count_days(until)}
+        first = "select first_at as at from session where site = :site and first_at < :until"
+        last = "select last_at as at from session where site = :site and last_day <= :day and last_at < :until"
+        rows = self.read_of(first, site, station, " order by first_at desc limit 1", until=until)
+        end = " order by last_day desc, last_at desc limit 1"
+        rows += self.read_of(last, site, station, end, **values)
+        return max((row[0] for row in rows), default=None)
+
+    def station_moments(self, site: str, station: str) -> Iterator[datetime]:
+        """The moments at which the sessions of a station began and ended."""
+        sql = "select first_at, last_at from session where site = :site and station = :station"
+        rows = self.store.fetch(sql, site=site, station=station)
+        return (at for row in rows for at in row if at)
 
     def last_moment(self, site: str, station: str | None = None) -> datetime | None:
         """The last moment of the sessions of a site or of a station."""
-        rows = self.read_of(
-            "select max(last_at) as last_at from session where site = :site", site, station, ""
-        )
+        sql = "select last_at from session where site = :site and last_day is not null"
+        rows = self.read_of(sql, site, station, " order by last_day desc, last_at desc limit 1")
         return rows[0][0] if rows else None
 
     # Sessions ---------------------------------------------------------------------------------------------------------
@@ -247,11 +263,14 @@ class Reader:
     ) -> list[SessionFacts]:
         """The sessions that ran between two moments, by their beginnings."""
         sql = (
-            f"select {SESSION} from session where site = :site and last_at >= :begin "
-            "and last_at < :latest and first_at < :end"
+            f"select {SESSION} from session where site = :site and last_day >= :first and last_day <= :last "
+            "and last_at >= :begin and last_at < :latest and first_at < :end"
         )
-        values = {"begin": begin, "end": end, "latest": end + LONGEST}
-        rows = self.read_of(sql, site, station, " order by first_at, station", **values)
+        latest = end + LONGEST
+        values: dict[str, Any] = {"begin": begin, "end": end, "latest": latest}
+        values |= {"first": count_days(begin), "last": count_days(latest)}
+        end_of = " order by first_at, station, transaction_id"
+        rows = self.read_of(sql, site, station, end_of, **values)
         return [make_session(row) for row in rows]
 
     def station_sessions(self, site: str, station: str) -> list[SessionFacts]:
@@ -268,14 +287,53 @@ class Reader:
     def lines(self, station: str, transaction_id: str, last: int) -> list[SessionLine]:
         """The last so many lines of a transaction, in their order."""
         sql = (
-            "select number, received, line, who, why, origin from line where station = :station "
+            f"select {LINE} from line where station = :station "
             "and transaction_id = :tx order by number desc limit :last"
         )
         rows = self.store.fetch(sql, station=station, tx=transaction_id, last=last)
-        return [
-            SessionLine(row[0], row[1], row[2], row[3] or "", row[4] or "", row[5] or "")
-            for row in reversed(rows)
-        ]
+        return [SessionLine(*row) for row in reversed(rows)]
+
+    def station_lines(self, station: str, last: int) -> Iterator[tuple[str, list[SessionLine]]]:
+        """The transactions of a station that have lines, by their ids, each with its last so many lines in their
+        order."""
+        sql = f"select {LINE}, transaction_id from line where station = :station order by transaction_id, number"
+        rows = self.store.stream(sql, station=station)
+        for transaction_id, some in groupby(rows, itemgetter(LINE_COLUMNS)):
+            yield transaction_id, [SessionLine(*row[:LINE_COLUMNS]) for row in deque(some, last)]
+
+    def session_record(self, session: SessionFacts) -> SessionRecord:
+        """What the page of a transaction has beside its figures."""
+        return SessionRecord(
+            self.lines(session.station, session.transaction_id, MOST_LINES),
+            self.session_refused(session, MOST_REFUSED),
+            self.session_deeds(session),
+        )
+
+    def station_records(
+        self, site: str, station: str
+    ) -> Iterator[tuple[SessionFacts, SessionRecord]]:
+        """The transactions of a station with the same, read at once."""
+        sessions = {one.transaction_id: one for one in self.station_sessions(site, station)}
+        refused = self.list_transactions("refusal", station) | self.list_transactions(
+            "stray", station
+        )
+        deeds = self.list_transactions("deed", station)
+        nothing: list[SessionLine] = []
+        for tx, lines in chain(
+            self.station_lines(station, MOST_LINES), ((tx, nothing) for tx in [*sessions])
+        ):
+            session = sessions.pop(tx, None)
+            if session is not None:
+                yield session, SessionRecord(
+                    lines,
+                    self.session_refused(session, MOST_REFUSED) if tx in refused else [],
+                    self.session_deeds(session) if tx in deeds else [],
+                )
+
+    def list_transactions(self, table: str, station: str) -> set[str]:
+        """The transactions of a station that a table names."""
+        sql = f"select distinct transaction_id from {table} where station = :station"
+        return {row[0] for row in self.store.fetch(sql, station=station)}
 
     # Troubles ---------------------------------------------------------------------------------------------------------
 
@@ -353,9 +411,10 @@ class Reader:
             "select count(*) as transactions, sum(case when complete then 1 else 0 end) as completed, "
             "sum(events) as events, sum(voided) as voided, sum(missing) as missing, sum(up) as up, "
             "sum(down) as down, sum(export_up) as export_up, sum(export_down) as export_down "
-            "from session where site = :site and last_at > :since and events > 0",
+            "from session where site = :site and last_day >= :day and last_at > :since and events > 0",
             site=site,
             since=since,
+            day=count_days(since),
         )
         return make_totals(rows[0])
 
@@ -385,6 +444,44 @@ class Reader:
         )
         return int(rows[0][0])
 
+    # Closings ---------------------------------------------------------------------------------------------------------
+
+    def closings(self, site: str, count: int, skipped: int = 0) -> list[Closing]:
+        """The closings of a site, the latest first."""
+        sql = f"select {CLOSING} from closing_sum where site = :site order by closing desc limit :count offset :skipped"
+        rows = self.store.fetch(sql, site=site, count=count, skipped=skipped)
+        return [Closing(*row) for row in rows]
+
+    def closing(self, site: str, number: int) -> Closing | None:
+        """A closing of a site; None where there is no such one."""
+        sql = f"select {CLOSING} from closing_sum where site = :site and closing = :number"
+        rows = self.store.fetch(sql, site=site, number=number)
+        return Closing(*rows[0]) if rows else None
+
+    def last_closings(self) -> dict[str, int]:
+        """The number of each site's last closing."""
+        rows = self.store.fetch("select site, max(closing) as closing from closing group by site")
+        return {row[0]: int(row[1]) for row in rows}
+
+    def corrections(self, site: str, number: int, count: int) -> list[Correction]:
+        """What a closing changed of what one before had settled."""
+        sql = (
+            "select station, transaction_id, starts, net, first_line, last_line from correction "
+            "where site = :site and closing = :number order by station, transaction_id, starts limit :count"
+        )
+        rows = self.store.fetch(sql, site=site, number=number, count=count)
+        return [Correction(*row) for row in rows]
+
+    def settled_sessions(self, site: str, number: int, count: int) -> list[Settled]:
+        """The sessions that a closing settled."""
+        sql = (
+            f"select station, transaction_id, settled, {FLOWS}, lines from closed_session "
+            "where site = :site and closing = :number and settled is not null "
+            "order by station, transaction_id limit :count"
+        )
+        rows = self.store.fetch(sql, site=site, number=number, count=count)
+        return [Settled(row[0], row[1], row[2], make_flow(row, 3), row[7]) for row in rows]
+
     def count_strays(self) -> int:
         """How many messages came of stations that no site has."""
         rows = self.store.fetch("select sum(times) as times from stray")
@@ -393,7 +490,8 @@ class Reader:
 
 def make_period(row: Row, seconds: int) -> Period:
     """Makes a period of its start, its energies, and how they were come by."""
-    return Period(row[0], seconds, make_flow(row, 1), not row[5], bool(row[6]))
+    flow = Flow(row[1], row[2], row[3], row[4])
+    return Period(row[0], seconds, flow, not row[5], bool(row[6]))
 
 
 def make_found(row: Row) -> Found:

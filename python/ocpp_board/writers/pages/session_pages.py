@@ -1,14 +1,15 @@
 """The page of a transaction: its figures, each message with its answer, who did what and why, and its lines."""
 
 import json
-from collections.abc import Iterator, Sequence
+from collections.abc import Iterable, Mapping, Sequence
 from datetime import datetime, timezone
-from typing import NamedTuple
+from typing import Any, NamedTuple
 
-from markupsafe import Markup
+from markupsafe import Markup, escape
 
 from ocpp_board.energies import kwh
-from ocpp_board.messages.transactions import Event, event_of
+from ocpp_board.messages.meter_values import EXPORT, IMPORT, measurand_of, mwh_of
+from ocpp_board.messages.times import seconds_of
 from ocpp_board.writers.calendar import Calendar
 from ocpp_board.writers.pages.cells import (
     MARK,
@@ -17,11 +18,14 @@ from ocpp_board.writers.pages.cells import (
     TableRow,
     link,
     make_columns,
+    make_pattern,
+    name_class,
     name_flows,
     wrap_time,
     write_duration,
     write_flow,
     write_ranges,
+    write_rows,
 )
 from ocpp_board.writers.pages.context import Context
 from ocpp_board.writers.pages.facts import (
@@ -30,43 +34,48 @@ from ocpp_board.writers.pages.facts import (
     RefusedText,
     SessionFacts,
     SessionLine,
+    SessionRecord,
     Site,
 )
 from ocpp_board.writers.pages.kinds import explain
 from ocpp_board.writers.pages.sessions import write_finding
-from ocpp_board.writers.tokens import NONE, hide_tokens, write_token
+from ocpp_board.writers.tokens import NONE, PLAIN, hide_tokens, may_have_token, write_token
 
-# Lines, refusals and readings that a page shows, and characters of the lines that it has.
-MOST_LINES, MOST_REFUSED, MOST_READINGS, MOST_CHARACTERS = 600, 200, 20, 90_000
-COLUMNS = make_columns("Event", " Its time", " Received", " Readings, kWh", " Answer")
+# Readings that a page shows of an event, and characters of the lines that it has.
+MOST_READINGS, MOST_CHARACTERS = 20, 90_000
+COLUMNS = tuple(make_columns("Event", " Its time", " Received", " Readings, kWh", " Answer"))
 DEEDS = make_columns("When", " Who", " What", " Why", " Answer")
+# The pattern of the row of an event, whose times are known.
+EVENT = make_pattern(COLUMNS) % ("%s", "%s %s", "<time>%s</time>", "<time>%s</time>", "%s", "%s")
+MARKED = name_class(MARK)
 DECODER = json.JSONDecoder(parse_int=str, parse_float=str)
+NO_UNIT: dict[str, Any] = {}
 
 
 class Came(NamedTuple):
-    """A line of a transaction: the event that it delivers, or the number of the event that it voids, restores or
-    erases."""
+    """A line of a transaction: the payload of the event that it delivers, or the number of the event that it voids,
+    restores or erases."""
 
     line: SessionLine
     word: str
     number: int
-    event: Event | None
+    payload: Mapping[str, Any] | None
 
 
 def read_line(line: SessionLine) -> Came:
     """Reads a line."""
-    word, _, rest = line.text.partition(" ")
-    if word != "deliver":
-        return Came(line, word, int(rest.rpartition(" ")[2]), None)
-    payload = DECODER.decode(rest.partition(" ")[2])[3]
-    event = event_of(payload, line.received, line.number)
-    return Came(line, word, event.number, event)
+    text = line.text
+    if not text.startswith("deliver "):
+        return Came(line, text.partition(" ")[0], int(text.rpartition(" ")[2]), None)
+    message, _ = DECODER.raw_decode(text, text.index(" ", 8) + 1)
+    payload = message[3]
+    return Came(line, "deliver", int(payload["seqNo"]), payload)
 
 
 def read_span(lines: Sequence[SessionLine]) -> list[datetime]:
     """Reads the first and the last moment of what lines deliver; none where they deliver nothing."""
-    events = (one.event for one in map(read_line, lines) if one.event)
-    moments = [event.at for event in events if event.at is not None]
+    stamps = {one.payload["timestamp"] for one in map(read_line, lines) if one.payload}
+    moments = [at for at in map(seconds_of, stamps) if at is not None]
     ends = (min(moments), max(moments)) if moments else ()
     return [datetime.fromtimestamp(at, timezone.utc) for at in ends]
 
@@ -97,18 +106,18 @@ def make_figures(session: SessionFacts, calendar: Calendar, tokens: str) -> list
 
 
 def make_rows(
-    came: Sequence[Came], refused: Sequence[RefusedText], calendar: Calendar
-) -> Iterator[TableRow]:
+    lines: Sequence[SessionLine], refused: Iterable[RefusedText], calendar: Calendar
+) -> Markup:
     """Makes the rows of what came, in the order in which it was accepted; behind it what was refused."""
+    came = [read_line(line) for line in lines]
     ends = find_ends(came)
-    for one in came:
-        if one.event is None:
-            continue
-        end = ends.get(one.line.number)
-        answer = f"accepted; {write_end(end)}" if end else "accepted"
-        yield TableRow([*write_event(one.event, one.line, calendar), answer], MARK if end else "")
-    for text in refused:
-        yield TableRow(write_refused(text, calendar), MARK)
+    rows = [
+        write_event(one, one.payload, ends.get(one.line.number), calendar)
+        for one in came
+        if one.payload is not None
+    ]
+    others = [TableRow(write_refused(text, calendar), MARK) for text in refused]
+    return Markup("".join(rows)) + write_rows(COLUMNS, others)
 
 
 def write_end(end: Came) -> str:
@@ -123,7 +132,7 @@ def find_ends(came: Sequence[Came]) -> dict[int, Came]:
     """Finds the events that don't count any more, by the numbers of their lines, each with the line that did it."""
     ends, delivered = dict[int, Came](), dict[int, int]()
     for one in came:
-        if one.event is not None:
+        if one.payload is not None:
             delivered[one.number] = one.line.number
             continue
         if (place := delivered.get(one.number)) is None:
@@ -135,17 +144,33 @@ def find_ends(came: Sequence[Came]) -> dict[int, Came]:
     return ends
 
 
-def write_event(event: Event, line: SessionLine, calendar: Calendar) -> list[str]:
-    """Writes the cells of an event before its answer."""
-    some = [
-        f"{kwh(one.mwh)}{' exported' if one.is_export else ''}"
-        for one in event.readings[:MOST_READINGS]
-    ]
-    more = len(event.readings) - len(some)
-    read = ", ".join(some) + (f" and {more:,} more" if more else "")
-    at = wrap_time(calendar.write_seconds(event.at)) if event.at is not None else UNKNOWN
-    received = wrap_time(calendar.second(line.received)) if line.received else UNKNOWN
-    return [f"{event.number} {event.kind}", at, received, read or UNKNOWN]
+def write_event(
+    came: Came, payload: Mapping[str, Any], end: Came | None, calendar: Calendar
+) -> str:
+    """Writes the row of an event. `end`: the line by which it does not count any more."""
+    stamp, received = calendar.write_stamp(payload["timestamp"]), came.line.received
+    return EVENT % (
+        MARKED if end else "",
+        came.number,
+        escape(payload["eventType"]),
+        stamp or UNKNOWN,
+        calendar.second(received) if received else UNKNOWN,
+        write_readings(payload.get("meterValue") or ()) or UNKNOWN,
+        escape(f"accepted; {write_end(end)}") if end else "accepted",
+    )
+
+
+def write_readings(values: Iterable[Mapping[str, Any]]) -> str:
+    """Writes the counted readings of an event, as numbers of kWh."""
+    found = list[str]()
+    for one in values:
+        for sampled in one["sampledValue"]:
+            measurand = measurand_of(sampled)
+            if measurand in (IMPORT, EXPORT):
+                text = kwh(mwh_of(sampled["value"], sampled.get("unitOfMeasure") or NO_UNIT))
+                found.append(f"{text} exported" if measurand == EXPORT else text)
+    more = len(found) - MOST_READINGS
+    return ", ".join(found[:MOST_READINGS]) + (f" and {more:,} more" if more > 0 else "")
 
 
 def write_refused(one: RefusedText, calendar: Calendar) -> list[str]:
@@ -168,8 +193,9 @@ def make_deed_row(deed: AnsweredDeed, calendar: Calendar) -> TableRow:
 def show_lines(lines: Sequence[SessionLine], tokens: str) -> list[str]:
     """The lines that a page has room for, with tokens as they are to be shown."""
     found, size = list[str](), 0
+    hides = tokens != PLAIN and may_have_token("\n".join([line.text for line in lines]))
     for line in lines:
-        text = hide_tokens(line.text, tokens)
+        text = hide_tokens(line.text, tokens) if hides else line.text
         size += len(text)
         if size > MOST_CHARACTERS:
             break
@@ -178,15 +204,16 @@ def show_lines(lines: Sequence[SessionLine], tokens: str) -> list[str]:
 
 
 def make_session_page(
-    context: Context, site: Site, session: SessionFacts, findings: Sequence[Found]
+    context: Context,
+    site: Site,
+    session: SessionFacts,
+    findings: Sequence[Found],
+    record: SessionRecord | None = None,
 ) -> Markup:
-    """Makes the page of a transaction."""
-    reader, calendar = context.reader, context.calendar(site)
-    lines = reader.lines(session.station, session.transaction_id, MOST_LINES)
-    came = [read_line(line) for line in lines]
-    refused = reader.session_refused(session, MOST_REFUSED)
-    deeds = reader.session_deeds(session)
-    shown = show_lines(lines, context.options.tokens)
+    """Makes the page of a transaction. `record`: what was read of it."""
+    calendar, tokens = context.calendar(site), context.options.tokens
+    lines, refused, deeds = record or context.reader.session_record(session)
+    shown = show_lines(lines, tokens)
     first = lines[0].number if lines else 1
     caption = "What came, in the order in which it was accepted"
     if first > 1:
@@ -197,19 +224,19 @@ def make_session_page(
         calendar,
         context.lead_up(site, session.station),
         state=session.state[:1].upper() + session.state[1:] or "No event counts",
-        figures=make_figures(session, calendar, context.options.tokens),
+        figures=make_figures(session, calendar, tokens),
         doubts=[write_finding(one) for one in findings],
         meanings=dict.fromkeys(explain(one.kind) for one in findings),
         deeds_href=make_deed_links(context, session),
         days=link_days(context, site, session),
         caption=caption,
         columns=COLUMNS,
-        rows=list(make_rows(came, refused, calendar)),
+        rows=make_rows(lines, refused, calendar),
         deed_columns=DEEDS,
         deeds=[make_deed_row(deed, calendar) for deed in deeds],
-        lines=shown,
+        lines="\n".join(shown),
         left=len(lines) - len(shown) + first - 1,
-        has_masks=context.options.tokens == NONE,
+        has_masks=tokens == NONE,
     )
 
 

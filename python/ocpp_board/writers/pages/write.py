@@ -3,14 +3,14 @@
     index.html                              all sites
     SITE/index.html                         a site
     SITE/YYYY-MM.html, SITE/YYYY-MM-DD.html a month, a day
-    SITE/stations.html, findings.html, lacking.html, refused.html, deeds.html
+    SITE/stations.html, findings.html, lacking.html, refused.html, deeds.html, closings.html
+    SITE/closing-NUMBER.html                a closing
     SITE/STATION/index.html                 a station, and its months and days as a site's
     SITE/STATION/session-ID.html            a transaction
 
 The pages that go on behind a full one are NAME.2.html and so on. Each file is there whole or as it was.
 """
 
-import gc
 import os
 import re
 import time
@@ -24,9 +24,18 @@ from markupsafe import Markup
 
 from ocpp_board.store.database import Database, open_again
 from ocpp_board.writers.calendar import Calendar, find_calendar
-from ocpp_board.writers.pages.context import Context, DayBook, PageOptions
+from ocpp_board.writers.copies import share_work
+from ocpp_board.writers.pages.closing_pages import make_closing_page
+from ocpp_board.writers.pages.context import Context, PageOptions
+from ocpp_board.writers.pages.day_book import DayBook
 from ocpp_board.writers.pages.day_pages import MOST_STATIONS, make_day_page, make_station_day_page
-from ocpp_board.writers.pages.facts import Found, SessionFacts, Site, StationSummary
+from ocpp_board.writers.pages.facts import (
+    Found,
+    SessionFacts,
+    SessionRecord,
+    Site,
+    StationSummary,
+)
 from ocpp_board.writers.pages.links import FileLinks, FilePaths
 from ocpp_board.writers.pages.list_pages import LIST_ROWS, LISTS, make_list_page
 from ocpp_board.writers.pages.month_pages import find_days, find_months, make_month_page
@@ -40,11 +49,9 @@ from ocpp_board.writers.pages.summaries import Summaries
 PATHS = FilePaths()
 # Sessions whose days are kept, where pages are written again, and days of one session that are written.
 KEPT_SESSIONS, MOST_SESSION_DAYS = 20_000, 62
-# Stations for each process that writes, at least.
-FEWEST = 2
 # The names of pages of a site's folder.
 OURS = re.compile(
-    r"(index|stations|findings|lacking|refused|deeds|session-.*|\d{4}-\d\d(-\d\d)?)(\.\d+)?\.html"
+    r"(index|stations|findings|lacking|refused|deeds|closings|closing-\d+|session-.*|\d{4}-\d\d(-\d\d)?)(\.\d+)?\.html"
 )
 
 # A station and a transaction of it, or None where only what was refused of the station changed.
@@ -71,6 +78,8 @@ class PageWriter:
         self.spans = OrderedDict[tuple[str, str], tuple[datetime, datetime]]()
         # By station and transaction, how much operators did there.
         self.deeds = dict[tuple[str, str], int]()
+        # By site, the last closing that has a page.
+        self.closings = dict[str, int]()
         self.written = find_now(options)
         self.count = 0
 
@@ -88,15 +97,14 @@ class PageWriter:
 
     def put(self, path: str, page: Markup) -> None:
         """Puts a page into its file. Raises OSError."""
-        file = self.out / path
-        made = file.with_name(f".{file.name}.made")
-        data = page.encode()
+        folder, name = os.path.split(f"{self.out}/{path}")
+        made, data = f"{folder}/.{name}.made", page.encode()
         try:
-            made.write_bytes(data)
+            write_file(made, data)
         except FileNotFoundError:
-            file.parent.mkdir(parents=True, exist_ok=True)
-            made.write_bytes(data)
-        os.replace(made, file)
+            os.makedirs(folder, exist_ok=True)
+            write_file(made, data)
+        os.replace(made, f"{folder}/{name}")
         self.count += 1
 
     # All --------------------------------------------------------------------------------------------------------------
@@ -106,41 +114,52 @@ class PageWriter:
         self.count, begun = 0, time.time()
         self.written = find_now(self.options)
         self.out.mkdir(parents=True, exist_ok=True)
-        sites = self.reader.sites()
+        sites, self.closings = self.reader.sites(), self.reader.last_closings()
         parts = list[Share]()
         for site in sites:
             names = self.summaries.site(site.name)
             parts += [Share(site, None), *(Share(site, name) for name in names)]
-        share_work(self, parts)
+        workers = self.options.workers
+        self.count = share_work(parts, workers, self.write_share, self.open_copy)
         self.write_index(sites)
         for site in sites:
-            remove_old(self.out / Path(PATHS.site(site.name)).parent, begun)
+            remove_old(f"{self.out}/{PATHS.scope(site.name, None)}", begun)
         return self.count
 
-    def write_share(self, part: Share) -> None:
-        """Writes the pages of a site or of one of its stations."""
-        site, station = part
+    def open_copy(self) -> Callable[[Share], int]:
+        """What writes in a copy of this process."""
+        own = PageWriter(open_again(self.store), self.out, self.options)
+        own.written, own.summaries.kept = self.written, self.summaries.kept
+        return own.write_share
+
+    def write_share(self, part: Share) -> int:
+        """Writes the pages of a site or of one of its stations, and gives how many."""
+        (site, station), before = part, self.count
+        history = self.book.open_history(site, station) if station is not None else None
+        for month in find_months(self.open_context("index.html"), site, station):
+            if history:
+                history.open_month(month)
+            self.write_months(site, station, [month])
+            days = find_days(self.open_context("index.html"), site, station, month)
+            self.write_days(site, station, days)
         if station is None:
             self.write_site(site)
             for name in LISTS:
                 self.write_list(site, name)
+            self.write_closings(site, 1, self.reader.last_closings().get(site.name, 0))
         else:
-            summary = self.find_summary(site, station)
-            self.write(
-                PATHS.station(site.name, station),
-                lambda context: make_station_page(context, site, summary),
-            )
-        months = find_months(self.open_context("index.html"), site, station)
-        self.write_months(site, station, months)
-        for month in months:
-            days = find_days(self.open_context("index.html"), site, station, month)
-            self.write_days(site, station, days)
+            self.write_station_page(site, station)
+            self.write_all_sessions(site, station)
         self.book.made.clear()
-        if station is not None:
-            findings = group_findings(self.find_summary(site, station).found)
-            for session in self.reader.station_sessions(site.name, station):
-                key = session.station, session.transaction_id
-                self.write_session(site, session, findings.get(key, ()))
+        self.book.history = None
+        return self.count - before
+
+    def write_all_sessions(self, site: Site, station: str) -> None:
+        """Writes the pages of all transactions of a station."""
+        findings = group_findings(self.find_summary(site, station).found)
+        for session, record in self.reader.station_records(site.name, station):
+            found = findings.get((station, session.transaction_id), ())
+            self.write_session(site, session, found, record)
 
     def write_index(self, sites: Sequence[Site], changed: Collection[str] | None = None) -> None:
         """Writes the page of all sites. `changed`: those that changed; None for all. Raises OSError."""
@@ -201,11 +220,37 @@ class PageWriter:
                 return
         (self.out / PATHS.listing(site.name, name, number)).unlink(missing_ok=True)
 
-    def write_session(self, site: Site, session: SessionFacts, findings: Sequence[Found]) -> None:
-        """Writes the page of a transaction."""
+    def write_closings(self, site: Site, first: int, last: int) -> None:
+        """Writes the pages of closings of a site."""
+        for number in range(first, last + 1):
+            closing = self.reader.closing(site.name, number)
+            if closing is not None:
+                path = PATHS.closing(site.name, number)
+                self.put(path, make_closing_page(self.open_context(path), site, closing))
+
+    def write_new_closings(self) -> int:
+        """Writes the pages of closings that came since they were written, and gives how many. Raises OSError."""
+        self.count, self.written = 0, find_now(self.options)
+        before, self.closings = self.closings, self.reader.last_closings()
+        for site in self.reader.sites() if before != self.closings else ():
+            had, has = before.get(site.name, 0), self.closings.get(site.name, 0)
+            if had < has:
+                # The one before leads to the first of them.
+                self.write_closings(site, max(had, 1), has)
+                self.write_list(site, "closings")
+        return self.count
+
+    def write_session(
+        self,
+        site: Site,
+        session: SessionFacts,
+        findings: Sequence[Found],
+        record: SessionRecord | None = None,
+    ) -> None:
+        """Writes the page of a transaction. `record`: what was read of it."""
         self.write(
             PATHS.session(site.name, session.station, session.transaction_id),
-            lambda context: make_session_page(context, site, session, findings),
+            lambda context: make_session_page(context, site, session, findings, record),
         )
 
     # What changed -----------------------------------------------------------------------------------------------------
@@ -285,13 +330,17 @@ class PageWriter:
 
     def write_station(self, site: Site, station: str, days: set[date]) -> None:
         """Writes the pages of a station that changed on these days."""
+        self.write_station_page(site, station)
+        self.write_months(site, station, list_months(days))
+        self.write_days(site, station, filter(self.is_shown, days))
+
+    def write_station_page(self, site: Site, station: str) -> None:
+        """Writes the page of a station."""
         summary = self.find_summary(site, station)
         self.write(
             PATHS.station(site.name, station),
             lambda context: make_station_page(context, site, summary),
         )
-        self.write_months(site, station, list_months(days))
-        self.write_days(site, station, filter(self.is_shown, days))
 
     def write_site_changed(
         self,
@@ -334,6 +383,12 @@ class PageWriter:
 MOST_SPAN_LINES = 600
 
 
+def write_file(path: str, data: bytes) -> None:
+    """Writes a file. Raises OSError."""
+    with open(path, "wb") as file:
+        file.write(data)
+
+
 def find_now(options: PageOptions) -> datetime:
     """Finds the moment that pages name as that of their writing."""
     return options.written or datetime.now(timezone.utc)
@@ -358,44 +413,14 @@ def list_months(days: Iterable[date]) -> list[date]:
     return sorted({day.replace(day=1) for day in days})
 
 
-def remove_old(folder: Path, begun: float) -> None:
+def remove_old(folder: str, begun: float) -> None:
     """Removes pages of a site that were not written since a moment."""
-    for path in folder.rglob("*.html"):
-        if OURS.fullmatch(path.name) and path.stat().st_mtime < begun - 1:
-            path.unlink()
-
-
-def share_work(writer: PageWriter, parts: Sequence[Share]) -> None:
-    """Writes parts, in a copy of this process for each of the workers where there are enough of them. Raises what the
-    writing raises."""
-    count = max(1, min(writer.options.workers, len(parts) // FEWEST))
-    if count == 1:
-        for part in parts:
-            writer.write_share(part)
-        return
-    copies = {fork_writer(writer, parts[place::count]): place for place in range(count)}
-    left = [place for copy, place in copies.items() if os.waitpid(copy, 0)[1]]
-    for place in left:
-        for part in parts[place::count]:
-            writer.write_share(part)
-
-
-def fork_writer(writer: PageWriter, parts: Sequence[Share]) -> int:
-    """Writes parts in a copy of this process, with a connection of its own, and gives its number."""
-    number = os.fork()
-    if number:
-        return number
-    gc.disable()
-    status = 1
-    try:
-        own = PageWriter(open_again(writer.store), writer.out, writer.options)
-        own.summaries.kept = writer.summaries.kept
-        for part in parts:
-            own.write_share(part)
-        status = 0
-    finally:
-        # Nothing of what this process does at its end is the copy's.
-        os._exit(status)
+    with os.scandir(folder) as entries:
+        for entry in entries:
+            if entry.is_dir(follow_symlinks=False):
+                remove_old(entry.path, begun)
+            elif OURS.fullmatch(entry.name) and entry.stat().st_mtime < begun - 1:
+                os.unlink(entry.path)
 
 
 def write_pages(

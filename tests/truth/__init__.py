@@ -1,0 +1,1 @@
+"""Cases with a physical truth that is fixed beforehand: what a car took, when and on which meter."""
