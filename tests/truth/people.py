@@ -69,7 +69,7 @@ CASES = [
         remedy=("operate correct A T1 0 0 --kwh 1 --why 'read at the meter'",),
         shows=(
             ("export --station A --transaction T1", "erase A t1 0"),
-            ("export --station A --transaction T1", "complete"),
+            ("bills --site north --month 2026-03", ",0.7,0,0.5000,yes,0,"),
         ),
     ),
     Case(
@@ -154,6 +154,7 @@ CASES = [
         "a station was cut off, and no session follows",
         "S T1 0 10:00 1000\nU T1 1 10:30 9000",
         {"A/T1": 12_000},
+        is_advised=False,
         remedy=("adjust estimate A T1 --register 13 --why 'read at the meter'",),
     ),
     Case(
@@ -225,7 +226,6 @@ CASES = [
         "S T1 0 10:00 1000\nU T1 1 10:30 9000",
         {"A/T1": 9000},
         is_advised=False,
-        files={"log": ""},
         log="E T1 2 11:00 received=31T10:00 10000",
         remedy=(
             "settle-by-rule --site north --days 30 --why clearing",
@@ -306,7 +306,7 @@ CASES = [
         found={"A/T1": {"one reading only": ""}},
         remedy=("adjust estimate A T1 --register 1.7 --why 'read at the meter'",),
         shows=(
-            ("bills --site north --month 2026-03", "energy measured"),
+            ("bills --site north --month 2026-03", "energy_measured"),
             ("bills --site north --month 2026-03", ",no,.*estimate 0.7 kWh"),
         ),
     ),

@@ -1,6 +1,6 @@
 """All cases, by their points."""
 
-from tests.truth import people, refused, versions
+from tests.truth import energy, people, quiet, refused, versions
 from tests.truth.case import Case
 
-CASES: list[Case] = [*refused.CASES, *people.CASES, *versions.CASES]
+CASES: list[Case] = [*energy.CASES, *refused.CASES, *people.CASES, *quiet.CASES, *versions.CASES]

@@ -5,10 +5,12 @@ import json
 from collections.abc import Sequence
 from datetime import timedelta
 from decimal import Decimal
+from pathlib import Path
 from typing import Any
 
 import pytest
 
+import ocpp_board
 from ocpp_board.ledger.answers import AnswerReader
 from ocpp_board.ledger.course import Course
 from ocpp_board.ledger.events import read_conflict
@@ -69,7 +71,7 @@ def find(
     """The findings of these messages."""
     course = follow(messages, conflicts, is_by_moment, voided, most_kw)
     others = [read_conflict(deliver(messages[number])) for number in conflicts]
-    return course.doubts.find(course.events, others, complete)
+    return course.doubts.find(course.events, others, complete, course.spans.of_readings)
 
 
 def registers(messages: Messages, is_by_moment: bool = False) -> tuple[tuple[int | None, ...], ...]:
@@ -91,11 +93,11 @@ def kinds(name: str, conflicts: Sequence[int] = ()) -> list[tuple[Kind, int]]:
         ("interval-energy", [(Kind.OTHER_ENERGY, 4)]),
         ("phase-energy", [(Kind.OTHER_ENERGY, 4)]),
         ("inlet-energy", [(Kind.OTHER_ENERGY, 4)]),
-        ("clock-back", [(Kind.CLOCK_BACK, 1)]),
+        ("clock-back", [(Kind.READ_LATER, 1)]),
         ("clock-far", [(Kind.CLOCK_FAR, 4)]),
         ("register-falls", [(Kind.REGISTER_FALLS, 1)]),
         ("readings-repeated", [(Kind.REPEATED, 3)]),
-        ("above-0", [(Kind.NUMBERS_ABOVE_0, 1)]),
+        ("above-0", []),
         ("missing-number", []),
         ("no-end", []),
         ("no-start", []),
@@ -149,6 +151,8 @@ def test_an_end_that_comes_again_with_another_time_uses_no_id_again() -> None:
     messages = [*sound("T1", FIRST), event("T1", 3, "Ended", FIRST + 9 * HOUR, 1)]
     assert find(messages, True, [4]) == []
     messages[4] = event("T1", 3, "Updated", FIRST + 9 * HOUR, 1)
+    assert find(messages, True, [4]) == []
+    messages[4] = event("T1", 0, "Started", FIRST + 9 * HOUR, 1)
     assert [one.kind for one in find(messages, True, [4])] == [Kind.ID_AGAIN]
 
 
@@ -194,7 +198,7 @@ def test_a_reason_may_be_anything(reason: Any, reported: str) -> None:
 def test_energy_that_does_not_count_beside_a_counted_reading_is_no_finding() -> None:
     messages = KINDS["interval-energy"]("T1", FIRST)
     messages[0].payload["meterValue"].append(reading(FIRST, 1))
-    assert find(messages) == []
+    assert [one.kind for one in find(messages)] == [Kind.ONE_READING]
 
 
 def test_a_session_that_goes_on_may_have_no_reading_yet() -> None:
@@ -282,7 +286,7 @@ def test_without_a_receipt_no_clock_is_far() -> None:
     assert [found.kind for found in find([one], False)] == [Kind.CLOCK_FAR]
     course = Course("north", Rules())
     course.take([Line(1, deliver(one), None)], follow([one]).lists)
-    assert course.doubts.find(course.events, [], False) == []
+    assert course.doubts.find(course.events, [], False, course.spans.of_readings) == []
 
 
 def test_registers_are_the_first_and_the_last_and_not_the_lowest() -> None:
@@ -297,6 +301,7 @@ def test_a_first_event_that_is_voided_came_all_the_same() -> None:
 def test_two_events_may_have_the_same_time() -> None:
     messages = sound("T1", FIRST)
     messages[1].payload["timestamp"] = messages[0].payload["timestamp"]
+    messages[1].payload["meterValue"][0]["timestamp"] = messages[0].payload["timestamp"]
     assert find(messages) == []
 
 
@@ -329,3 +334,11 @@ def test_a_value_that_does_not_count_needs_no_number() -> None:
 )
 def test_readings_are_whole_mwh_rounded_down(value: str, unit: dict[str, Any], mwh: int) -> None:
     assert mwh_of(value, unit) == mwh
+
+
+def test_the_kinds_that_hold_a_bill_are_those_of_the_view() -> None:
+    text = (Path(ocpp_board.__file__).parent / "store" / "days_views.sql").read_text("utf-8")
+    listed = text.partition("f.kind in (")[2].partition(")")[0]
+    assert {word.strip().strip("'") for word in listed.replace("\n", " ").split(",")} == {
+        kind.label for kind in Kind if kind.holds
+    }

@@ -22,7 +22,7 @@ def events(*readings: tuple[float, int]) -> list[Event]:
 
 def doubts(some: list[Event], *gaps: tuple[int, int]) -> dict[int, Doubt]:
     """The doubts by quarters after ten."""
-    spans, live, had = Spans(QUARTER), LiveEvents(), None
+    spans, live, had = Spans(QUARTER, 300), LiveEvents(), None
     live += some
     live.orders[0].extend((event, one) for event in some for one in event.readings)
     spans.take_events(some)

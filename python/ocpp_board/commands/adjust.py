@@ -21,6 +21,7 @@ from ocpp_board.store.database import Database, open_store
 from ocpp_board.store.decisions import (
     Adjustment,
     adjust,
+    declare_by_values,
     declare_credit,
     declare_estimate,
     declare_exchange,
@@ -48,7 +49,8 @@ def add_words(parser: argparse.ArgumentParser) -> None:
         "--register",
         required=True,
         metavar="KWH",
-        help="what the register read at its end; next: what the next session of the EVSE began with",
+        help="what the register read at its end; next: what the next session of the EVSE began with; meter-values: "
+        "what MeterValues of the EVSE say from its start to its end",
     )
     credit.add_argument("--kwh", required=True, type=read_mwh, dest="imported", metavar="KWH")
     credit.add_argument("--exported-kwh", default=0, type=read_mwh, dest="exported", metavar="KWH")
@@ -68,6 +70,8 @@ def declare(store: Database, words: argparse.Namespace) -> Adjustment:
         return declare_credit(
             store, words.station, words.transaction, words.imported, words.exported
         )
+    if words.register == "meter-values":
+        return declare_by_values(store, words.station, words.transaction)
     try:
         register = None if words.register == "next" else read_mwh(words.register)
     except argparse.ArgumentTypeError as fault:

@@ -9,7 +9,7 @@ come. Voided events are not billed. Columns, with OCPI's names of a CDR's fields
     session_id, location_id, station, evse_uid (the EVSE's number; empty where none was named)
     total_energy, exported_energy    by the ledger: what was imported, and what was fed back, in kWh, exactly
     total_time                       hours
-    complete, missing                yes or no; how many messages are missing
+    messages_complete, missing       yes or no; how many messages are missing
     settled                          provisional: its energy may change until a closing settles it, or something came
                                      since; settled; corrected: a later closing found another figure
     sent_id                          its id as the station sent it first
@@ -18,7 +18,8 @@ come. Voided events are not billed. Columns, with OCPI's names of a CDR's fields
     first_signed_value, first_public_key, last_signed_value, last_public_key
                                      in base64, as OCPP has them
     settled_by                       complete, or rule where somebody settled it though messages lack
-    measured                         no where it has no two moments with a reading
+    energy_measured                  yes; from .. to .. only, where a reading of the start or the end lacks; no, where
+                                     readings do not say it
     adjusted_energy, adjusted_exported_energy
                                      the ledger's energy and all adjustments: what to bill
     adjustments, hold, findings      each with its reason; a session with `held: ..` is not to be billed before

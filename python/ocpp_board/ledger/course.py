@@ -1,9 +1,10 @@
 """What is known of a transaction as far as its lines came: it goes on with what comes behind them."""
 
 from collections.abc import Sequence
+from math import gcd
 from typing import NamedTuple
 
-from ocpp_board.ledger.answers import Lists
+from ocpp_board.ledger.answers import Figures, Lists
 from ocpp_board.ledger.events import History, LiveEvents
 from ocpp_board.ledger.findings import Doubts, name_order_option
 from ocpp_board.ledger.periods import Spans
@@ -52,11 +53,19 @@ class Facts:
         self.token, self.remote_start = NOTHING, ""
         self.signed: list[Signed] = []
         self.keys: list[str] = []
+        # The last number, and the greatest step by which all numbers rise.
+        self.number: int | None = None
+        self.bounds = 0
+        self.step = 0
 
     def take_events(self, events: Sequence[Event], is_first: bool) -> None:
         """Takes further events in their order. `is_first`: there was none before."""
         for place, event in enumerate(events):
+            if self.number is not None:
+                self.step = gcd(self.step, event.number - self.number)
+            self.number = event.number
             if event.kind != "Updated":
+                self.bounds += 1
                 self.is_misplaced = self.is_misplaced or place > 0 or not is_first
                 if event.kind == "Ended":
                     self.ended = event
@@ -64,6 +73,23 @@ class Facts:
                     self.started = event
             if event.details is not NOTHING:
                 self.take_details(event.details)
+
+    def find_step(self, figures: Figures) -> int:
+        """The step of more than 1 by which a session counts that lacks nothing else; 0 where it does not."""
+        if (
+            self.step < 2
+            or self.started is None
+            or self.ended is None
+            or self.is_misplaced_but_end()
+        ):
+            return 0
+        is_whole = figures.last - figures.first == self.step * (figures.events - 1)
+        return self.step if is_whole and figures.events > 2 else 0
+
+    def is_misplaced_but_end(self) -> bool:
+        """Whether the end has not the last number, or the session begins or ends more than once."""
+        assert self.ended is not None
+        return self.ended.number != self.number or self.bounds > 2
 
     def take_details(self, details: Details) -> None:
         """Takes what an event has for a bill."""
@@ -90,9 +116,13 @@ class Course:
     def __init__(self, site: str, rules: Rules) -> None:
         self.rules, self.block, self.history = rules, NO_LINES, History()
         self.lists = Lists([], [], [])
-        self.events, self.facts, self.spans = LiveEvents(), Facts(), Spans(rules.period)
+        self.events, self.facts, self.spans = (
+            LiveEvents(),
+            Facts(),
+            Spans(rules.period, rules.reading_within),
+        )
         by_sequence = None if rules.order == "moment" else name_order_option(site)
-        self.doubts = Doubts(by_sequence, rules.most_kw)
+        self.doubts = Doubts(by_sequence, rules)
 
     def measure(self) -> int:
         """About how many bytes this and the lines take."""

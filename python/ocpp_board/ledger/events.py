@@ -22,6 +22,8 @@ from ocpp_board.records import DELIVER, Line
 # The members of messages of which the program's lists say nothing.
 BESIDE = "measurand phase location signedMeterValue stoppedReason idToken remoteStartId offline"
 BESIDE_WORDS = tuple(f'"{name}"' for name in BESIDE.split())
+# A unit that stands beside its value.
+UNIT_WORD, UNIT_HOLDER = '"unit"', '"unitOfMeasure"'
 # The number of an event, in a text that has one member of this name.
 NUMBER_WORD = '"seqNo"'
 NUMBER = re.compile(r'"seqNo"[ \t\r\n]*:[ \t\r\n]*([0-9]+)(?![0-9.eE])')
@@ -89,7 +91,8 @@ def find_beside(text: str) -> Beside:
             if word in text:
                 break
         else:
-            return NOTHING_BESIDE
+            if UNIT_WORD not in text or UNIT_HOLDER in text:
+                return NOTHING_BESIDE
     return read_beside(JSON.decode(cut_message(text))[3])
 
 
@@ -160,6 +163,7 @@ def make_event(listed: Listed, readings: tuple[Reading, ...], line: Line | None)
         listed.evse,
         beside.unlike,
         beside.details,
+        beside.measured,
     )
 
 

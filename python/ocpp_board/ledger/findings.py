@@ -2,12 +2,21 @@
 
 from collections.abc import Iterable, Iterator, Sequence
 from datetime import datetime
-from enum import Enum
+from itertools import pairwise
 from typing import NamedTuple
 
 from ocpp_board.energies import MWH_OF_A_KWH, kwh
 from ocpp_board.ledger.events import Counted, LiveEvents
-from ocpp_board.messages.transactions import Event, Reading, moment
+from ocpp_board.ledger.kinds import Effect as Effect  # noqa: F401
+from ocpp_board.ledger.kinds import Kind as Kind
+from ocpp_board.messages.transactions import (
+    NOTHING_MEASURED,
+    Event,
+    Measured,
+    Reading,
+    moment,
+)
+from ocpp_board.records import Rules
 
 
 # Measurands that are named of a session.
@@ -16,121 +25,11 @@ MOST_SEEN = 6
 MOST_KW = 400
 # A fall of a register by so many mWh at least may be that of a meter that was reset.
 LEAST_RESET = 1_000_000
-
-
-class Effect(Enum):
-    """What a finding does to the figures of its session, the gravest first."""
-
-    WRONG = "a number is wrong"
-    LACKS = "energy is lacking"
-    OTHER = "neither"
-
-
-class Kind(Enum):
-    """The kinds of findings, the gravest for a bill first: their names, what they say, and what they do to figures."""
-
-    POWER = (
-        "power that cannot be",
-        "Between two readings the register rose faster than an EVSE can charge (--most-kw). One of the two readings "
-        "or its time is wrong, and so is the energy. Compare them with the readings before and after, and void the "
-        "event that has the wrong one (`operate`, or a line `void STATION ID NUMBER` of a script).",
-        Effect.WRONG,
-    )
-    SIGNED = (
-        "signed value differs",
-        "The signed value of a reading differs from the plain one, which the ledger counts. Bill the session by its "
-        "signed values, which the transactions table and the signed files have.",
-        Effect.WRONG,
-    )
-    RESET = (
-        "register reset or exchanged",
-        "The register reads less than before and stays there: the meter was reset or exchanged. Within a session its "
-        "net energy is too low by what was lost; add it to the bill by hand.",
-        Effect.WRONG,
-    )
-    REGISTER_FALLS = (
-        "register falls",
-        "The register reads less than before, and the fall counts as down. Compare the reading with those "
-        "before and after. If it is wrong, void its event (`operate`, or a line `void STATION ID NUMBER` of a script).",
-        Effect.WRONG,
-    )
-    REPEATED = (
-        "readings repeated at the end",
-        "An event lists readings again that came before. The session's net energy is right, but its periods are not: "
-        "the fall back to the first of them is in one period, and the second rise in the others. Run the tool again "
-        "over the log with the option that the detail names: then readings that are listed again change nothing.",
-        Effect.WRONG,
-    )
-    ON_BOUNDARIES = (
-        "readings where periods begin",
-        "Most readings of the station lie where a period begins, and the site settles by `later`: the energy of each "
-        "period is shown in the next one. Run the tool again over the log with the option that the detail names.",
-        Effect.WRONG,
-    )
-    ID_AGAIN = (
-        "transaction id used again",
-        "Events came under the id after its end. Two sessions are mixed in one, or the second one was refused. Find "
-        "both in the log by the id and their times, and bill them by their registers.",
-        Effect.WRONG,
-    )
-    CLOCK_BACK = (
-        "clock goes back",
-        "An event has an earlier time than the event before it, so its energy may be in a wrong period. The session's "
-        "energy is right. Compare the times in the log with those of receipt before you settle its periods.",
-        Effect.WRONG,
-    )
-    CLOCK_FAR = (
-        "clock far from receipt",
-        "An event's time is more than 5 minutes after its receipt, or more than an hour before it and the event was "
-        "not offline. Its energy may be in a wrong period. If the station's clock was wrong, settle its periods by the "
-        "times of receipt in the log.",
-        Effect.WRONG,
-    )
-    NO_READING = (
-        "no counted reading",
-        "The session is complete and has no reading of energy, so it shows 0 kWh. Look in the log for MeterValues "
-        "of its time, or read the meter.",
-        Effect.LACKS,
-    )
-    OTHER_ENERGY = (
-        "energy that does not count",
-        "The session has readings of energy, and none of them counts: they are of an interval, of one phase, or of "
-        "another place than the outlet. So it shows 0 kWh. The log has these readings: bill the session by them.",
-        Effect.LACKS,
-    )
-    ROSE_BETWEEN = (
-        "register rose between sessions",
-        "The register of the EVSE reads more at the start of this session than at the end of the one before. No "
-        "session has this energy. Look for messages between the two, in the table of what was refused and in the log.",
-        Effect.LACKS,
-    )
-    OUTSIDE = (
-        "energy outside sessions",
-        "The register rose in MeterValues that the station sent outside its transactions, and no session was there "
-        "then. Look for a session that was refused or never reported, in the table of what was refused and in the log.",
-        Effect.LACKS,
-    )
-    NOT_ENDED = (
-        "no end, and a later session began",
-        "A later session of the same EVSE began, so this one is over and its end did not come. What it took after "
-        "its last reading is not in it. The first reading of the later session is the most that it can have reached.",
-        Effect.LACKS,
-    )
-    NUMBERS_ABOVE_0 = (
-        "numbers begin above 0",
-        "The first sequence number is above 0. What came before it is not counted as missing. Look for it in the log "
-        "of the time before, such as a rotated file.",
-        Effect.LACKS,
-    )
-    ONE_COUNTER = (
-        "one counter for several EVSEs",
-        "The numbers that seem to be missing came in sessions of other EVSEs at the same time: the station counts all "
-        "its events with one counter. Probably nothing is missing.",
-        Effect.OTHER,
-    )
-
-    def __init__(self, label: str, meaning: str, effect: Effect) -> None:
-        self.label, self.meaning, self.effect = label, meaning, effect
+MWH_OF_A_WH = 1_000
+# Seconds by which a reading may be later than its event, and up to which power counts from one value to the next.
+MOST_LATER, LONGEST_POWER = 60, 3_600
+# The least energy in mWh by power that a register is compared with.
+LEAST_POWER = 100_000
 
 
 class Finding(NamedTuple):
@@ -190,11 +89,10 @@ def report_falls(falls: Sequence[Fall], readings: Sequence[Reading]) -> Iterator
         )
         < starts[fall.one.is_export]
     ]
-    yield from make_finding(
-        Kind.REGISTER_FALLS, [(fall.event, "") for fall in falls if fall not in resets]
-    )
-    lost = describe_falls(resets)
-    yield from make_finding(Kind.RESET, [(fall.event, lost) for fall in resets])
+    others = [fall for fall in falls if fall not in resets]
+    for kind, some in ((Kind.REGISTER_FALLS, others), (Kind.RESET, resets)):
+        lost = describe_falls(some)
+        yield from make_finding(kind, [(fall.event, lost) for fall in some])
 
 
 def describe_falls(falls: Sequence[Fall]) -> str:
@@ -206,45 +104,42 @@ def describe_falls(falls: Sequence[Fall]) -> str:
     return f"{kwh(lost)} kWh lost: {each}"
 
 
-def find_falls_by_sequence(events: LiveEvents, remedy: str) -> Iterator[Finding]:
-    """Where a register falls from one reading to the next, and where readings are listed again."""
-    seen = set[Reading]()
-    before: dict[bool, Reading] = {}
-    falls, repeats, readings = list[Fall](), list[Event](), list[Reading]()
-    for event in events:
-        listed = [one for one in event.readings if one in seen]
-        # The last reading once more changes nothing.
-        if any(one != before.get(one.is_export) for one in listed):
-            repeats += [event] * len(listed)
-        for one in event.readings:
-            had = before.get(one.is_export)
-            if one in seen:
-                continue
-            falls += [Fall(event, had, one)] if had and one.mwh < had.mwh else []
-            readings.append(one)
-            before[one.is_export] = one
-        seen.update(event.readings)
-    yield from report_falls(falls, readings)
-    by_moment = f"{remedy} takes them by moment"
-    yield from make_finding(Kind.REPEATED, [(event, by_moment) for event in repeats])
+def is_begin(event: Event, one: Reading, first: Reading) -> bool:
+    """Whether an end lists the session's first reading again, as it was or rounded to whole kWh."""
+    if event.kind != "Ended":
+        return False
+    is_whole = one.mwh % MWH_OF_A_KWH == 0 and abs(one.mwh - first.mwh) < MWH_OF_A_KWH
+    return one.mwh == first.mwh or is_whole
 
 
 class Doubts:
     """What is doubtful in a transaction. It takes the events and the counted readings in their order, each once: so
     where a transaction goes on, nothing of it is looked at again."""
 
-    def __init__(self, by_sequence: str | None, most_kw: int) -> None:
-        """`by_sequence`: what would have the site's readings taken by moment, where they are not; `most_kw`: the
-        greatest power that can be."""
-        self.by_sequence, self.most_kw = by_sequence, most_kw
+    def __init__(self, by_sequence: str | None, rules: Rules) -> None:
+        """`by_sequence`: what would have the site's readings taken by moment, where they are not."""
+        self.by_sequence, self.most_kw = by_sequence, rules.most_kw
+        self.resolution, self.within = rules.resolution * MWH_OF_A_WH, rules.reading_within
         # The doubtful events by their kinds, with a detail each.
         self.noted: dict[Kind, list[tuple[Event, str]]] = {}
         self.last_at: float | None = None
+        self.last_read: float | None = None
+        self.evse = 0
+        self.begin: Event | None = None
         self.end: Event | None = None
-        # By register, where its power was too great, where it fell, and whether it rose all the time.
+        # Events behind the end, and whether one of them begins a session.
+        self.behind: list[tuple[Event, str]] = []
+        self.begins_again = False
+        # By register, the first reading, where its power was too great, where it fell, and whether it rose all the
+        # time; whether two readings differ, and the last begin that an end lists again.
+        self.firsts: list[Reading | None] = [None, None]
         self.powers: tuple[list[tuple[Event, str]], ...] = [], []
         self.falls: tuple[list[Fall], ...] = [], []
         self.rises = [True, True]
+        self.has_several = False
+        self.begun: list[Fall | None] = [None, None]
+        self.peak = 0.0
+        self.course = Power()
 
     def note(self, kind: Kind, event: Event, detail: str = "") -> None:
         """Notes a doubtful event."""
@@ -253,52 +148,132 @@ class Doubts:
     def take_events(self, events: Iterable[Event]) -> None:
         """Takes further events."""
         for event in events:
-            if event.at is not None:
-                if self.last_at is not None and event.at < self.last_at:
-                    self.note(Kind.CLOCK_BACK, event)
-                self.last_at = event.at
+            at = event.at
+            if at is not None:
+                if self.last_at is not None and at < self.last_at:
+                    self.take_earlier(event)
+                self.last_at = at
+                for one in event.readings:
+                    when = one.at
+                    if when is not None:
+                        if when > at + MOST_LATER:
+                            self.note(Kind.READ_LATER, event, describe_later(event, one))
+                        if self.last_read is None or when > self.last_read:
+                            self.last_read = when
             if event.is_far:
                 self.note(Kind.CLOCK_FAR, event)
             if event.others:
                 self.note(Kind.OTHER_ENERGY, event)
             for said in event.unlike:
                 self.note(Kind.SIGNED, event, said)
-            if self.end:
-                self.note(Kind.ID_AGAIN, event)
-            elif event.kind == "Ended":
-                self.end = event
+            if event.measured is not NOTHING_MEASURED:
+                self.take_measured(event)
+            if event.evse and event.evse != self.evse:
+                if self.evse:
+                    self.note(Kind.EVSE_CHANGES, event, f"{self.evse}, then {event.evse}")
+                self.evse = event.evse
+            if event.kind != "Updated" or self.end:
+                self.take_bounds(event)
+
+    def take_earlier(self, event: Event) -> None:
+        """Takes an event that has an earlier time than the one before. Where its readings are as late as they should
+        be, and it is neither the start nor the end, nothing comes of it."""
+        moments = [one.at for one in event.readings if one.at is not None]
+        last = self.last_read
+        if event.kind != "Updated" or not moments or last is None or min(moments) < last:
+            self.note(Kind.CLOCK_BACK, event)
+
+    def take_measured(self, event: Event) -> None:
+        """Takes what an event measures beside the registers."""
+        if event.measured.unit:
+            self.note(
+                Kind.UNIT, event, f"a member `unit` beside the value says {event.measured.unit}"
+            )
+        self.course.take(event.measured)
+
+    def take_bounds(self, event: Event) -> None:
+        """Takes an event that begins or ends the session, or that is behind its end."""
+        if self.end:
+            self.behind.append((event, ""))
+            self.begins_again = self.begins_again or event.kind == "Started"
+        elif event.kind == "Ended":
+            self.end = event
+        if event.kind == "Started" and self.begin is None:
+            self.begin = event
 
     def take_readings(self, is_export: bool, had: Reading | None, found: Iterable[Counted]) -> None:
         """Takes further readings of a register. `had`: the one before them."""
+        first = self.firsts[is_export]
         for event, one in found:
-            if had is not None:
-                if one.mwh < had.mwh:
+            if had is None or first is None:
+                first = self.firsts[is_export] = one
+            elif one.mwh < had.mwh:
+                self.has_several = True
+                if is_begin(event, one, first):
+                    # What follows is compared with the reading before.
+                    self.begun[is_export] = Fall(event, had, one)
+                    continue
+                self.rises[is_export] = False
+                if had.mwh - one.mwh >= self.resolution:
                     self.falls[is_export].append(Fall(event, had, one))
-                elif one.mwh > had.mwh and find_power(had, one) > self.most_kw:
+            elif one.mwh > had.mwh:
+                self.has_several = True
+                self.begun[is_export] = None
+                power = find_power(had, one)
+                if power > self.peak and is_a_minute(had, one):
+                    self.peak = power
+                if power > self.most_kw:
                     self.powers[is_export].append((event, describe_rise(had, one)))
-                if one.mwh < had.mwh or one.mwh == had.mwh and not is_later(had, one):
-                    self.rises[is_export] = False
+            elif is_later(had, one):
+                self.has_several = True
+            else:
+                self.rises[is_export] = False
             had = one
 
     def find(
-        self, events: LiveEvents, conflicts: Sequence[Event], is_complete: bool
+        self,
+        events: LiveEvents,
+        conflicts: Sequence[Event],
+        is_complete: bool,
+        times: tuple[float, float] | None,
     ) -> list[Finding]:
         """The findings so far, the gravest first. `events`: all that were taken; `conflicts`: those that conflicted
-        with them."""
+        with them; `times`: of the first and the last reading."""
         if not events:
             return []
         noted = self.noted.get
+        orders = list(self.compare_orders(events))
         found = [*self.find_no_energy(events, is_complete), *self.find_id_again(conflicts)]
-        if self.by_sequence is None and any(self.falls):
+        found += self.find_lacking(times, events)
+        if orders:
+            found += [one for one in orders if one.detail]
+        elif self.by_sequence is None and any(self.falls):
             found += report_falls(sum(self.falls, []), events.list_readings())
         elif self.by_sequence is not None and not all(self.rises):
-            found += find_falls_by_sequence(events, self.by_sequence)
+            found += find_falls_by_sequence(events, self.by_sequence, self.resolution)
         found += make_finding(Kind.POWER, sum(self.powers, []))
-        for kind in (Kind.SIGNED, Kind.CLOCK_BACK, Kind.CLOCK_FAR):
+        found += self.find_begun(events)
+        for kind in (
+            Kind.SIGNED,
+            Kind.CLOCK_BACK,
+            Kind.CLOCK_FAR,
+            Kind.READ_LATER,
+            Kind.EVSE_CHANGES,
+        ):
             found += make_finding(kind, noted(kind, []))
-        if first := events.first_number:
+        found += self.find_units(events)
+        if (
+            (first := events.first_number)
+            and self.begin is None
+            and not self.has_voided_begin(events)
+        ):
             found += make_finding(Kind.NUMBERS_ABOVE_0, [(events[0], f"the first is {first}")])
         return sort_findings(found)
+
+    @staticmethod
+    def has_voided_begin(events: LiveEvents) -> bool:
+        """Whether a Started event came that somebody voided."""
+        return "Started" in events.voided.values()
 
     def find_no_energy(self, events: LiveEvents, is_complete: bool) -> Iterator[Finding]:
         """Whether a session has no reading that counts."""
@@ -307,26 +282,207 @@ class Doubts:
         if others := self.noted.get(Kind.OTHER_ENERGY):
             seen = sorted({one for event, _ in others for one in event.others})
             more = f" and {len(seen) - MOST_SEEN:,} more" if len(seen) > MOST_SEEN else ""
-            detail = ", ".join(seen[:MOST_SEEN]) + more
+            sums = (
+                f": {kwh(self.course.intervals)} kWh by intervals" if self.course.intervals else ""
+            )
+            detail = ", ".join(seen[:MOST_SEEN]) + more + sums
             yield from make_finding(Kind.OTHER_ENERGY, [(event, detail) for event, _ in others])
         elif is_complete:
             yield from make_finding(Kind.NO_READING, [(events[-1], "")])
 
+    def find_lacking(
+        self, times: tuple[float, float] | None, events: LiveEvents
+    ) -> Iterator[Finding]:
+        """Whether a session that is over lacks a reading of its start or of its end."""
+        if times is None or self.end is None:
+            return
+        if not self.has_several:
+            detail = f"{kwh(events.list_readings()[0].mwh)} kWh"
+            yield from make_finding(Kind.ONE_READING, [(self.end, detail)])
+            return
+        if late := self.find_late(self.begin, times[0]):
+            detail = f"the first reading is {describe_time(late)} after the start"
+            yield from make_finding(Kind.NO_BEGIN, [(self.begin or self.end, detail)])
+        if early := self.find_late(self.end, times[1]):
+            detail = f"the last reading is {describe_time(early)} before the end"
+            yield from make_finding(Kind.NO_END, [(self.end, detail)])
+
+    def find_late(self, event: Event | None, at: float) -> float:
+        """How long a reading lies beside the start or the end, where that is too long; else 0."""
+        if event is None or event.at is None:
+            return 0
+        beside = at - event.at if event.kind == "Started" else event.at - at
+        return beside if beside > self.within else 0
+
+    def name_measured(self, times: tuple[float, float] | None) -> str:
+        """Whether the session's energy is measured: yes, part of it, or no."""
+        if times is None or not self.has_several:
+            return "no"
+        if self.begin is None or self.end is None:
+            return "part"
+        is_late = self.find_late(self.begin, times[0]) or self.find_late(self.end, times[1])
+        return "part" if is_late else "yes"
+
     def find_id_again(self, conflicts: Sequence[Event]) -> Iterator[Finding]:
-        """The events that came under the id after its first end: later numbers, or later times that were refused. The
-        end itself with another time is none."""
+        """The events of another session that came under the id after its first end: one that begins, and what came with
+        it. Two ends of a session, or an update behind its end, are none."""
         end = self.end
         if end is None:
             return
         after = [
-            (one, "")
+            one
             for one in conflicts
-            if (one.number, one.kind) != (end.number, end.kind)
-            and one.at is not None
-            and end.at is not None
-            and one.at > end.at
+            if one.at is not None and end.at is not None and one.at > end.at
         ]
-        yield from make_finding(Kind.ID_AGAIN, self.noted.get(Kind.ID_AGAIN, []) + after)
+        if not self.begins_again and not any(one.kind == "Started" for one in after):
+            return
+        yield from make_finding(Kind.ID_AGAIN, [*self.behind, *((one, "") for one in after)])
+
+    def find_begun(self, events: LiveEvents) -> Iterator[Finding]:
+        """Whether a register ends with the begin that the end lists again."""
+        for is_export, fall in zip((False, True), self.begun):
+            order = events.orders[is_export]
+            if fall is not None and order and order[-1] == (fall.event, fall.one):
+                detail = f"{kwh(fall.had.mwh)} kWh, then {kwh(fall.one.mwh)} kWh"
+                yield from make_finding(Kind.BEGIN_LAST, [(fall.event, detail)])
+
+    def find_units(self, events: LiveEvents) -> Iterator[Finding]:
+        """Whether a register rose by a thousandth of what the measured power gives, by a thousand times as much, or
+        not at all."""
+        if own := self.noted.get(Kind.UNIT):
+            yield from make_finding(Kind.UNIT, own)
+            return
+        order, gives = events.orders[0], self.course.mwh
+        if gives < LEAST_POWER or len(order) < 2:
+            return
+        rise = order[-1][1].mwh - order[0][1].mwh
+        detail = f"the register rose by {kwh(rise)} kWh, and the measured power gives {kwh(round(gives))} kWh"
+        if 0 <= rise < self.resolution:
+            if rise * 2_000 < gives or not rise:
+                kind = Kind.UNIT if rise * 500 > gives / 4 else Kind.STANDS_STILL
+                yield from make_finding(kind, [(order[-1][0], detail)])
+        elif gives / 2_000 < rise < gives / 500 or gives * 500 < rise < gives * 2_000:
+            yield from make_finding(Kind.UNIT, [(order[-1][0], detail)])
+
+    def compare_orders(self, events: LiveEvents) -> Iterator[Finding]:
+        """Where a clock was set back: whether the session's energy differs by the order of its readings. Without a
+        detail where it does not, and only this order has falls."""
+        if not (self.noted.keys() & {Kind.CLOCK_BACK, Kind.READ_LATER}):
+            return
+        places = {event.number: place for place, event in enumerate(events)}
+        listed = [
+            sorted(order, key=lambda counted: places[counted[0].number]) for order in events.orders
+        ]
+        sequence = [find_course(drop_repeats(order), self.resolution) for order in listed]
+        timed = [
+            find_course(
+                sorted((one for _, one in order), key=lambda one: one.at or 0), self.resolution
+            )
+            for order in listed
+        ]
+        own, other = (timed, sequence) if self.by_sequence is None else (sequence, timed)
+        own_falls, other_falls = (any(falls for _, falls in some) for some in (own, other))
+        nets = [
+            sum(net if not k else -net for k, (net, _) in enumerate(some))
+            for some in (sequence, timed)
+        ]
+        if not own_falls:
+            return
+        event = (self.noted.get(Kind.CLOCK_BACK) or self.noted[Kind.READ_LATER])[0][0]
+        if nets[0] == nets[1]:
+            if not other_falls:
+                yield from make_finding(Kind.ORDERS, [(event, "")])
+            return
+        names = "by moment", "by sequence"
+        can = names[own is timed] if not other_falls else ""
+        which = (
+            f"{can} the register never falls, so this can be"
+            if can
+            else "in both the register falls"
+        )
+        yield from make_finding(
+            Kind.ORDERS,
+            [(event, f"{kwh(nets[0])} kWh by sequence, {kwh(nets[1])} kWh by moment: {which}")],
+        )
+
+
+def drop_repeats(order: Iterable[Counted]) -> list[Reading]:
+    """Readings in the order of their events, without those that are listed again."""
+    return list(dict.fromkeys(one for _, one in order))
+
+
+def find_course(readings: Sequence[Reading], resolution: int) -> tuple[int, bool]:
+    """By how much a register rose in all, and whether it fell on the way."""
+    if not readings:
+        return 0, False
+    falls = any(had.mwh - one.mwh >= resolution for had, one in pairwise(readings))
+    return readings[-1].mwh - readings[0].mwh, falls
+
+
+def find_falls_by_sequence(
+    events: LiveEvents, remedy: str, resolution: int = 1
+) -> Iterator[Finding]:
+    """Where a register falls from one reading to the next by more than it resolves, and where readings are listed
+    again."""
+    seen = set[Reading]()
+    before: dict[bool, Reading] = {}
+    firsts: dict[bool, Reading] = {}
+    falls, repeats, readings = list[Fall](), list[Event](), list[Reading]()
+    for event in events:
+        listed = [one for one in event.readings if one in seen]
+        # The last reading once more changes nothing.
+        if any(one != before.get(one.is_export) for one in listed):
+            repeats += [event] * len(listed)
+        for one in event.readings:
+            if one in seen:
+                continue
+            had = before.get(one.is_export)
+            first = firsts.setdefault(one.is_export, one)
+            if had and one.mwh < had.mwh and is_begin(event, one, first):
+                continue
+            if had and had.mwh - one.mwh >= max(resolution, 1):
+                falls.append(Fall(event, had, one))
+            readings.append(one)
+            before[one.is_export] = one
+        seen.update(event.readings)
+    yield from report_falls(falls, readings)
+    by_moment = f"{remedy} takes them by moment"
+    yield from make_finding(Kind.REPEATED, [(event, by_moment) for event in repeats])
+
+
+class Power:
+    """What the measured power of a session gives, and its interval values."""
+
+    def __init__(self) -> None:
+        self.last: tuple[float, float] | None = None
+        self.mwh, self.intervals = 0.0, 0
+
+    def take(self, measured: Measured) -> None:
+        """Takes what a message measures."""
+        self.intervals += measured.intervals
+        for at, watts in measured.powers:
+            if self.last and 0 < at - self.last[0] <= LONGEST_POWER:
+                # Watt-seconds are 3.6ths of milliwatt-hours.
+                self.mwh += (at - self.last[0]) * (watts + self.last[1]) / 2 / 3.6
+            self.last = at, watts
+
+
+def describe_later(event: Event, one: Reading) -> str:
+    """How much later than its event a reading is."""
+    assert event.at is not None and one.at is not None
+    return f"{describe_time(one.at - event.at)} later"
+
+
+def describe_time(seconds: float) -> str:
+    """A length of time for a reader."""
+    if seconds < 3_600:
+        return f"{seconds / 60:.0f} min"
+    return f"{seconds / 3_600:.1f} h"
+
+
+def is_a_minute(had: Reading, one: Reading) -> bool:
+    """Whether a reading is a minute or more after the one before."""
+    return had.at is not None and one.at is not None and one.at - had.at >= 60
 
 
 def find_power(had: Reading, one: Reading) -> float:

@@ -34,9 +34,10 @@ class Spans:
     """The times of a transaction beside those of periods. It takes its events and its counted readings in their order,
     each once: so where a transaction goes on, nothing of it is looked at again."""
 
-    def __init__(self, seconds: int) -> None:
-        """`seconds`: those of a period."""
-        self.seconds = seconds
+    def __init__(self, seconds: int, within: int) -> None:
+        """`seconds`: those of a period; `within`: how far the first and the last reading may be from the start and the
+        end."""
+        self.seconds, self.within = seconds, within
         # The first and the last time of events and of readings; all times of readings.
         self.of_events: tuple[float, float] | None = None
         self.of_readings: tuple[float, float] | None = None
@@ -94,6 +95,7 @@ class Spans:
         starts = dict.fromkeys(
             start for at in self.find_unmeasured() for start in (at - self.seconds, at)
         )
+        starts |= dict.fromkeys(self.find_unread())
         shares = [self.find_shares(events, is_export, starts) for is_export in (False, True)]
         doubts = {
             start: Doubt(True, shares[0].get(start, 0) + shares[1].get(start, 0))
@@ -114,6 +116,23 @@ class Spans:
                 return
             if at not in self.measured:
                 yield at
+
+    def find_unread(self) -> Iterator[int]:
+        """The periods from the start of a session to its first reading, and from its last reading to the end, where
+        these are further apart than they may be."""
+        if self.of_events is None:
+            return
+        begin, end = self.of_events
+        first, last = self.of_readings or (end, begin)
+        spans = [(begin, first)] if first - begin > self.within else []
+        spans += [(last, end)] if end - last > self.within else []
+        if self.of_readings is None:
+            spans = [(begin, end)]
+        for since, until in spans:
+            start = int(since // self.seconds) * self.seconds
+            yield from range(
+                start, min(int(until) + 1, start + MOST_PERIODS * self.seconds), self.seconds
+            )
 
     def find_shares(self, events: LiveEvents, is_export: bool, starts: Collection[int]) -> Shares:
         """What these periods get of a register where energy is shared by time."""

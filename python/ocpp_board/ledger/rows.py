@@ -14,7 +14,7 @@ from ocpp_board.errors import ProgramError, StoreError
 from ocpp_board.ledger.answers import AnswerReader, BoardPart, Figures, read_answer
 from ocpp_board.ledger.course import NO_LINES, Block, Course
 from ocpp_board.ledger.events import Counted, History, read_conflict
-from ocpp_board.ledger.findings import Finding
+from ocpp_board.ledger.findings import Effect, Finding
 from ocpp_board.ledger.periods import SURE, Doubt, Doubts, Gaps, find_holes
 from ocpp_board.ledger.program import Program
 from ocpp_board.limits import LONGEST_SCRIPT, MOST_READINGS, MOST_SITES, MOST_STATIONS
@@ -67,6 +67,10 @@ class Session(NamedTuple):
     boundary_moments: int
     first_boundary_at: datetime | None
     received_until: datetime | None
+    energy_measured: str
+    first_reading_at: datetime | None
+    last_reading_at: datetime | None
+    peak_w: int
 
 
 class Part(NamedTuple):
@@ -305,10 +309,15 @@ def make_rows(work: Work, course: Course, board: BoardPart, conflicts: Sequence[
     gaps = board.gaps.get(work.transaction, [])
     lost = leave_voided(gaps, course.history)
     findings = course.doubts.find(
-        course.events, list(map(read_conflict, conflicts)), figures is not None and figures.complete
+        course.events,
+        list(map(read_conflict, conflicts)),
+        figures is not None and figures.complete,
+        course.spans.of_readings,
     )
     session = make_session(work.transaction, course, board, gaps, lost)
-    return Rows(session, make_parts(board, course.spans.find_doubts(course.events, lost)), findings)
+    is_wrong = any(one.kind.effect is Effect.WRONG for one in findings)
+    doubts = course.spans.find_doubts(course.events, lost)
+    return Rows(session, make_parts(board, doubts, is_wrong), findings)
 
 
 def make_session(
@@ -319,6 +328,7 @@ def make_session(
     history, events, spans, facts = course.history, course.events, course.spans, course.facts
     holes = list(find_holes(events, lost))
     first_at, last_at = spans.of_events or (None, None)
+    first_read, last_read = spans.of_readings or (None, None)
     signed = facts.list_signed()
     return Session(
         course.block.lines,
@@ -349,6 +359,10 @@ def make_session(
         spans.boundaries,
         to_moment(spans.first_boundary),
         history.received_until,
+        course.doubts.name_measured(spans.of_readings),
+        to_moment(first_read),
+        to_moment(last_read),
+        round(course.doubts.peak * 1_000),
     )
 
 
@@ -391,6 +405,8 @@ def name_state(figures: Figures, course: Course) -> str:
     voids = {number: history.voids[number] for number in sorted(history.voids)}
     if figures.complete:
         return "complete"
+    if step := course.facts.find_step(figures):
+        return f"complete, numbers in steps of {step}"
     if figures.missing:
         inside = [one for number, one in voids.items() if figures.first < number < figures.last]
         if not inside:
@@ -407,11 +423,17 @@ def name_state(figures: Figures, course: Course) -> str:
     return f"{name_voiders(ends)}: {state.removesuffix(' yet')}" if ends else state
 
 
-def make_parts(board: BoardPart, doubts: Doubts) -> list[Part]:
-    """The rows of a transaction's periods: those that its board shows, and those that are doubtful."""
+def make_parts(board: BoardPart, doubts: Doubts, is_wrong: bool) -> list[Part]:
+    """The rows of a transaction's periods: those that its board shows, and those that are doubtful. `is_wrong`: a
+    number of the transaction is wrong, so none of its periods is measured."""
     flows = board.periods
     starts = sorted({*flows, *doubts}) if doubts else flows
-    return [make_part(start, flows.get(start), doubts.get(start, SURE)) for start in starts]
+    found = [make_part(start, flows.get(start), doubts.get(start, SURE)) for start in starts]
+    return (
+        [one._replace(measured=False, shared=one.shared or 0) for one in found]
+        if is_wrong
+        else found
+    )
 
 
 def make_part(start: int, flow: Flow | None, doubt: Doubt) -> Part:

@@ -10,11 +10,14 @@ from ocpp_board.messages.bills import NOTHING, Details, details_of
 from ocpp_board.messages.meter_values import EXPORT, IMPORT, measurand_of
 from ocpp_board.messages.meter_values import mwh_of as mwh_of
 from ocpp_board.messages.signed_values import unlike_plain
+from ocpp_board.messages.times import seconds_of
 
 # What a measurand of active energy begins with, whether its readings count or not.
 ENERGY = "Energy.Active."
 # The measurands whose readings count.
 REGISTERS = (IMPORT, EXPORT)
+# Measurands that are compared with registers.
+INTERVAL, POWER = "Energy.Active.Import.Interval", "Power.Active.Import"
 # The unit of a value that names none.
 NO_UNIT: dict[str, Any] = {}
 # Seconds by which an event may lie after its receipt, and before it where it was not queued offline.
@@ -31,10 +34,22 @@ class Reading(NamedTuple):
     is_export: bool
 
 
+class Measured(NamedTuple):
+    """What a message measures beside the registers that count: power by time (seconds since 1970, and W), the sum of
+    interval values in mWh, and a unit that stands beside a value, where OCPP 2.0.1 has none."""
+
+    powers: tuple[tuple[float, float], ...] = ()
+    intervals: int = 0
+    unit: str = ""
+
+
+NOTHING_MEASURED = Measured()
+
+
 class Event(NamedTuple):
     """An event. `others`: what it has of energy that doesn't count; `is_far`: whether its time is far from its receipt;
     `evse`: 0 if it names none; `unlike`: signed values that differ from their plain ones; `details`: what it has for a
-    bill."""
+    bill; `measured`: what it measures beside registers."""
 
     number: int
     kind: str
@@ -46,6 +61,7 @@ class Event(NamedTuple):
     evse: int = 0
     unlike: tuple[str, ...] = ()
     details: Details = NOTHING
+    measured: Measured = NOTHING_MEASURED
 
 
 class Beside(NamedTuple):
@@ -56,6 +72,7 @@ class Beside(NamedTuple):
     reason: str = ""
     unlike: tuple[str, ...] = ()
     details: Details = NOTHING
+    measured: Measured = NOTHING_MEASURED
 
 
 NOTHING_BESIDE = Beside()
@@ -80,6 +97,7 @@ def read_beside(payload: dict[str, Any]) -> Beside:
     others, unlike = set[str](), list[str]()
     info = payload["transactionInfo"]
     has_details = "idToken" in payload or "remoteStartId" in info
+    powers, intervals, unit = list[tuple[float, float]](), 0, ""
     for value in payload.get("meterValue") or ():
         for sampled in value["sampledValue"]:
             measurand = measurand_of(sampled)
@@ -87,6 +105,13 @@ def read_beside(payload: dict[str, Any]) -> Beside:
             has_details = has_details or is_signed
             if measurand.startswith(ENERGY) and not is_counted:
                 others.add(plain(measurand))
+                if measurand == INTERVAL:
+                    intervals += max(read_mwh(sampled), 0)
+            elif measurand == POWER:
+                at, watts = seconds_of(value["timestamp"]), read_mwh(sampled) / 1_000
+                powers += [(at, watts)] if at is not None else []
+            if is_counted and sampled.get("unit") not in (None, "Wh"):
+                unit = plain(sampled["unit"])
             if is_counted and is_signed:
                 mwh = mwh_of(sampled["value"], sampled.get("unitOfMeasure") or NO_UNIT)
                 unlike += filter(None, [unlike_plain(sampled, mwh)])
@@ -96,7 +121,22 @@ def read_beside(payload: dict[str, Any]) -> Beside:
         plain(info.get("stoppedReason")),
         tuple(unlike),
         details_of(payload) if has_details else NOTHING,
+        Measured(tuple(powers), intervals, unit)
+        if powers or intervals or unit
+        else NOTHING_MEASURED,
     )
+
+
+def read_mwh(sampled: dict[str, Any]) -> int:
+    """A value that nothing checked in thousandths of its unit, kilo or not; 0 where it is no number."""
+    unit = sampled.get("unitOfMeasure")
+    try:
+        power = dict(unit) if isinstance(unit, dict) else NO_UNIT
+        if power.get("unit") == "kW":
+            power["unit"] = "kWh"
+        return mwh_of(sampled["value"], power)
+    except (ValueError, ArithmeticError, LookupError, TypeError, AttributeError):
+        return 0
 
 
 def is_far(at: float | None, receipt: float | None, is_offline: bool) -> bool:

@@ -94,8 +94,9 @@ from (
     select s.site, s.station, s.transaction_id, f.kind, f.detail, s.up, s.down, s.export_up, s.export_down
     from session s join all_finding f on f.station = s.station and f.transaction_id = s.transaction_id
     where f.kind in (
-        'power that cannot be', 'signed value differs', 'register reset or exchanged', 'register falls',
-        'transaction id used again')
+        'power that cannot be', 'more power than before', 'signed value differs', 'value in another unit',
+        'register reset or exchanged', 'register falls', 'energy differs by order', 'begin listed behind the end',
+        'transaction id used again', 'sessions overlap', 'two EVSEs with one meter')
     union all
     select s.site, s.station, s.transaction_id, 'negative energy', '', s.up, s.down, s.export_up, s.export_down
     from session s join adjusted_session a on a.station = s.station and a.transaction_id = s.transaction_id
@@ -111,12 +112,12 @@ left join release r on r.station = h.station and r.transaction_id = h.transactio
         where l.station = h.station and l.transaction_id = h.transaction_id and l.kind = h.kind);
 
 -- A session as a bill has it: its energy by the ledger, the adjustments and their sum, its state, how many findings and
--- how many holds it has. `measured`: whether two moments have a reading.
+-- how many holds it has. `energy_measured`: whether readings say its energy (yes, part, no), from when to when.
 create view bill as
 select s.site, s.station, s.transaction_id, s.sent_id, s.evse, s.began, s.ended,
     coalesce(s.began, s.first_at) as at, s.complete, s.missing, a.imported, a.exported, a.adjusted_import,
     a.adjusted_export, a.import_sum, a.export_sum, a.adjustments, t.state, t.settled,
-    s.reading_moments > 1 as measured,
+    s.energy_measured, s.first_reading_at, s.last_reading_at,
     coalesce(f.times, 0) as findings, coalesce(h.times, 0) as holds
 from session s
 join adjusted_session a on a.station = s.station and a.transaction_id = s.transaction_id

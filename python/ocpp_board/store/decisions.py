@@ -10,10 +10,11 @@ from ocpp_board.energies import kwh
 from ocpp_board.errors import UsageError
 from ocpp_board.store.database import Database, Row
 from ocpp_board.store.plan import Author
+from ocpp_board.store.values import estimate_session
 
 SESSION = """
-select site, station, transaction_id, evse, complete, up, down, export_up, export_down, first_at, last_at,
-    first_register, last_register
+select site, station, transaction_id, evse, complete, up, down, export_up, export_down, began, ended, first_at, last_at,
+    first_register, last_register, first_reading_at, last_reading_at
 from session where station = :station and transaction_id = :transaction_id
 """
 AT_EVSE = """
@@ -138,6 +139,21 @@ def declare_estimate(
     return Adjustment(
         session, "estimate", session.last_at, register - session.last_register, 0, detail
     )
+
+
+def declare_by_values(store: Database, station: str, transaction: str) -> Adjustment:
+    """The adjustment for a session that took what MeterValues of its EVSE say, from its start to its end. Raises
+    UsageError where these do not say it."""
+    session = find_session(store, station, transaction)
+    found = estimate_session(store, session)
+    if found is None:
+        raise UsageError(
+            f"no MeterValues of EVSE {session.evse} of {station} are around the start and the end of {transaction!r}; "
+            "name the register by --register, or the energy by `adjust credit`"
+        )
+    mwh, detail = found
+    had = session.up - session.down
+    return Adjustment(session, "estimate", session.last_at, mwh - had, 0, detail)
 
 
 def declare_credit(

@@ -48,8 +48,9 @@ create view evse_next as
         order by l.first_at, l.transaction_id limit 1)
     where s.ended is null and s.evse <> 0 and s.events > 0;
 
--- How far the register of an EVSE rose or fell from one transaction to the next, where that is doubtful and the one
--- before was over. Energies are also there as texts of their watt-hours: eleven digits behind a 1.
+-- How far the register of an EVSE rose or fell from one transaction to the next, where the one before was over: it rose
+-- by 10 Wh at least, and by more than 100 Wh a day, which a cabinet may take; or it fell by 1 kWh at least, and does not
+-- begin at 0 in each transaction. Energies are also there as texts of their watt-hours: eleven digits behind a 1.
 create view evse_change as
     select s.site, s.station, s.transaction_id, s.first_at, b.transaction_id as before_id,
         s.first_register - s.before_register as mwh,
@@ -63,7 +64,58 @@ create view evse_change as
             and l.first_at <= s.first_at and (l.first_at < s.first_at or l.transaction_id < s.transaction_id)
         order by l.first_at desc, l.transaction_id desc limit 1)
     where s.first_at >= b.last_at
-        and (s.first_register - s.before_register >= 10000 or s.before_register - s.first_register >= 1000000);
+        and (s.first_register - s.before_register >= 10000 and s.first_register - s.before_register > 100000
+            * (/*sqlite julianday(s.first_at) - julianday(b.last_at)*/
+            /*postgresql extract(epoch from s.first_at - b.last_at) / 86400*/)
+        or s.before_register - s.first_register >= 1000000 and not (s.first_register < 1000 and b.first_register < 1000));
+
+-- Each transaction of an EVSE that begins while the one before it runs, where both have energy of one register: by how
+-- much they overlap.
+create view evse_overlap as
+    select s.site, s.station, s.transaction_id, s.first_at, b.transaction_id as before_id,
+        case when s.last_register < b.last_register then s.last_register else b.last_register end
+            - s.first_register as mwh
+    from session s join session b on b.station = s.station and b.transaction_id = (
+        select l.transaction_id from session l
+        where l.site = s.site and l.station = s.station and l.evse = s.evse and l.events > 0
+            and l.first_register is not null
+            and l.first_at <= s.first_at and (l.first_at < s.first_at or l.transaction_id < s.transaction_id)
+        order by l.first_at desc, l.transaction_id desc limit 1)
+    where s.evse <> 0 and s.events > 0 and s.first_at < b.last_at
+        and (s.first_register > b.first_register or s.first_register = b.first_register and s.first_register >= 1000)
+        and s.first_register < b.last_register - 10000 and s.last_register > s.first_register + 10000;
+
+-- Each transaction beside the one before it of the same station, at another EVSE.
+create view station_step as
+    select site, station, transaction_id, evse, first_at, last_at, first_register, last_register, peak_w,
+        lag(transaction_id) over earlier as before_id, lag(evse) over earlier as before_evse,
+        lag(first_at) over earlier as before_first_at, lag(last_at) over earlier as before_last_at,
+        lag(first_register) over earlier as before_first, lag(last_register) over earlier as before_last
+    from session
+    where evse <> 0 and events > 0 and first_register is not null
+    window earlier as (partition by site, station order by first_at, transaction_id);
+
+-- Transactions of two EVSEs that ran at the same time with registers of one meter: the second one begins within what the
+-- first one reads, and one of them ends within what the other one reads.
+create view one_meter as
+    select site, station, transaction_id, before_id, first_at from station_step
+    where evse <> before_evse and first_at < before_last_at and first_register > before_first + 10000
+        and first_register < before_last - 10000 and last_register > first_register + 10000
+        and (last_at <= before_last_at and last_register <= before_last
+            or last_at >= before_last_at and last_register >= before_last);
+
+-- The greatest power of each transaction beside that of others of its station: `usual` is what nine of ten of at least
+-- twenty do not exceed.
+create view power_step as
+    select p.site, p.station, p.transaction_id, p.first_at, p.peak_w, u.usual
+    from session p join (
+        select site, station, max(peak_w) as usual, max(sessions) as sessions from (
+            select site, station, peak_w, percent_rank() over (partition by site, station order by peak_w) as place,
+                count(*) over (partition by site, station) as sessions
+            from session where events > 0 and peak_w > 0) r
+        where place <= 0.9 group by site, station) u on u.site = p.site and u.station = p.station
+    join station t on t.station = p.station and t.most_kw is null
+    where p.events > 0 and u.sessions >= 20 and p.peak_w > 2 * u.usual and p.peak_w > u.usual + 11000;
 
 -- Each number that a transaction lacks and that came in a transaction of another EVSE at the same time, with which it
 -- has none in common: how many numbers of a gap a run of the other one has.
@@ -83,11 +135,12 @@ create view other_counter as
         where a.station = s.station and a.transaction_id = s.transaction_id
             and b.station = o.station and b.transaction_id = o.transaction_id);
 
--- What is doubtful between transactions of an EVSE: the register rose or was reset from one to the next, a later one
--- began before an end came, or missing numbers came in transactions of other EVSEs at the same time.
+-- What is doubtful between transactions: the register of an EVSE rose or began anew from one to the next, two ran at the
+-- same time with the same energy, a later one began before an end came, one had more power than others, or what was
+-- refused of one waits for a decision.
 create view evse_finding as
     select site, station, transaction_id,
-        case when mwh > 0 then 'register rose between sessions' else 'register reset or exchanged' end as kind,
+        case when mwh > 0 then 'register rose between sessions' else 'meter exchanged between sessions' end as kind,
         1 as times, first_at,
         case when mwh > 0 then
             coalesce(nullif(ltrim(substr(difference, 2, 2) || ',' || substr(difference, 4, 3) || ','
@@ -106,14 +159,24 @@ create view evse_finding as
     select site, station, transaction_id, 'no end, and a later session began', 1, next_at, next_id || ' began'
     from evse_next where next_at >= last_at
     union all
-    select s.site, s.station, s.transaction_id, 'one counter for several EVSEs', 1, s.first_at, (
-        select 'with ' || min(c.other_id) || case when count(distinct c.other_id) > 1
-            then ' and ' || (count(distinct c.other_id) - 1) || ' more' else '' end
-        from other_counter c where c.station = s.station and c.transaction_id = s.transaction_id)
-    from session s
-    where s.missing > 0 and s.events > 0 and not s.complete and s.missing = (
-        select sum(c.numbers) from other_counter c
-        where c.station = s.station and c.transaction_id = s.transaction_id);
+    select site, station, transaction_id, 'sessions overlap', 1, first_at,
+        coalesce(nullif(ltrim(substr(digits, 2, 2) || ',' || substr(digits, 4, 3) || ','
+            || substr(digits, 7, 3), '0,'), ''), '0') || '.' || substr(digits, 10, 3) || ' kWh also in ' || before_id
+    from (select o.*, cast(100000000000 + (mwh + 500) / 1000 as text) as digits from evse_overlap o) o
+    union all
+    select site, station, transaction_id, 'two EVSEs with one meter', 1, first_at, 'with ' || before_id from one_meter
+    union all
+    select site, station, before_id, 'two EVSEs with one meter', count(*), min(first_at), 'with ' || min(transaction_id)
+    from one_meter group by site, station, before_id
+    union all
+    select site, station, transaction_id, 'more power than before', 1, first_at,
+        (peak_w / 1000) || ' kW, and at most ' || (usual / 1000) || ' kW in nine of ten other sessions'
+    from power_step
+    union all
+    select s.site, r.station, r.transaction_id, 'refused messages wait', count(*), min(r.first_at),
+        'the first: ' || min(r.cause)
+    from refusal r join session s on s.station = r.station and s.transaction_id = r.transaction_id
+    where r.decision = '' and s.events > 0 group by s.site, r.station, r.transaction_id;
 
 -- Where the register of an EVSE rose from one of its MeterValues to the next while no transaction was there.
 create view outside_rise as
@@ -121,12 +184,14 @@ create view outside_rise as
         select station, evse, at, lag(at) over before as had_at,
             up_register - lag(up_register) over before as mwh
         from meter_value window before as (partition by station, evse order by at, up_register)) m
-    where mwh >= 10000 and not exists (
+    where evse <> 0 and mwh >= 10000 and mwh > 100000 * (/*sqlite julianday(at) - julianday(had_at)*/
+            /*postgresql extract(epoch from at - had_at) / 86400*/) and not exists (
         select 1 from session s where s.station = m.station and s.evse in (m.evse, 0) and s.events > 0
             and s.last_at > m.had_at and s.first_at < m.at);
 
 -- What is doubtful at a station and of no transaction: most of its readings lie where a period begins and the site
--- settles by `later`, or the register of an EVSE rose in MeterValues while no transaction was there.
+-- settles by `later`, it counts with one counter or in steps, or the register of an EVSE rose in MeterValues while no
+-- transaction was there. EVSE 0 is the main meter.
 create view station_finding as
     select s.site, s.station, 'readings where periods begin' as kind,
         cast(sum(s.boundary_moments) as bigint) as times, min(s.first_boundary_at) as first_at,
@@ -136,6 +201,19 @@ create view station_finding as
     where s.site = i.site and i.settle = 'later' and s.events > 0
     group by s.site, s.station
     having sum(s.boundary_moments) >= 8 and 2 * sum(s.boundary_moments) > sum(s.reading_moments)
+    union all
+    select s.site, s.station, 'one counter for several EVSEs', count(*), min(s.first_at),
+        count(*) || ' sessions, the first is ' || min(s.transaction_id)
+    from session s
+    where s.missing > 0 and s.events > 0 and not s.complete and s.missing = (
+        select sum(c.numbers) from other_counter c
+        where c.station = s.station and c.transaction_id = s.transaction_id)
+    group by s.site, s.station
+    union all
+    select site, station, 'numbers in steps', count(*), min(first_at),
+        count(*) || ' sessions ' || min(substr(state, 11)) from session
+    where events > 0 and missing > 0 and state like 'complete, numbers in steps%'
+    group by site, station
     union all
     select t.site, o.station, 'energy outside sessions', o.times, o.first_at,
         coalesce(nullif(ltrim(substr(digits, 2, 2) || ',' || substr(digits, 4, 3) || ','

@@ -23,7 +23,7 @@ from ocpp_board.store.database import (
 SESSION = """lines evse events voided first_number last_number complete missing gaps up down export_up export_down state
 began ended first_at last_at first_register last_register first_export_register last_export_register stopped_reason
 sent_id token token_type remote_start_id signed holes reading_moments boundary_moments first_boundary_at
-received_until""".split()
+received_until energy_measured first_reading_at last_reading_at peak_w""".split()
 # The columns of a line, in the order of `records.Line`.
 LINE = "station transaction_id number line received who why origin".split()
 # The places of those columns of a transaction that have what its station sent.

@@ -140,6 +140,10 @@ create table session (
     -- Those two moments in days and hours since 1970: indexes have these, since each message changes the moments.
     last_day int,
     changed_hour int,
+    energy_measured text not null default 'no', -- whether readings say its energy: yes, part, no
+    first_reading_at timestamptz,
+    last_reading_at timestamptz,
+    peak_w bigint not null default 0,           -- the greatest power between two readings, in W
     own_order text not null default '' check (own_order in ('', 'sequence', 'moment')),  -- where it is not the site's
     primary key (station, transaction_id)
 ) /*postgresql partition by hash (station)*/;

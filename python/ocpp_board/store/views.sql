@@ -95,7 +95,7 @@ create view lacking as
         s.received_until, s.changed_at, s.up - s.down as imported, coalesce(s.received_until, s.last_at) as heard_at
     from session s
     left join rule_settled r on r.station = s.station and r.transaction_id = s.transaction_id
-    where s.events > 0 and not s.complete and r.station is null;
+    where s.events > 0 and not s.complete and s.state not like 'complete%' and r.station is null;
 
 -- When something was heard of each planned station last, and the last moment that a transaction of it names.
 create view silent_station as

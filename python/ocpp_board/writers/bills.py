@@ -3,7 +3,7 @@
 import csv
 import json
 from collections import defaultdict
-from collections.abc import Iterator, Mapping
+from collections.abc import Callable, Iterator, Mapping
 from dataclasses import dataclass, field
 from datetime import date, datetime, time, timezone
 from pathlib import Path
@@ -19,10 +19,16 @@ from ocpp_board.store.database import Database, Row
 
 HEADS = (
     *("start_date_time", "end_date_time", "session_id", "location_id", "station", "evse_uid"),
-    *("total_energy", "exported_energy", "total_time", "complete", "missing", "settled"),
+    *("total_energy", "exported_energy", "total_time", "messages_complete", "missing", "settled"),
     *("sent_id", "id_token", "id_token_type", "remote_start_id"),
     *("first_signed_value", "first_public_key", "last_signed_value", "last_public_key"),
-    *("settled_by", "measured", "adjusted_energy", "adjusted_exported_energy", "adjustments"),
+    *(
+        "settled_by",
+        "energy_measured",
+        "adjusted_energy",
+        "adjusted_exported_energy",
+        "adjustments",
+    ),
     *("hold", "findings"),
 )
 ZONE = "select zone from site where site = :site"
@@ -80,6 +86,13 @@ def write_signed_kwh(mwh: int) -> str:
 def write_moment(at: datetime | None) -> str:
     """A moment in UTC as OCPI has it; empty where there is none."""
     return at.astimezone(timezone.utc).strftime(MOMENT) if at else ""
+
+
+def describe_measured(row: Row, write: Callable[[datetime], str] = write_moment) -> str:
+    """Whether the energy of a session is measured: yes, from when to when only, or no."""
+    if row.energy_measured != "part":
+        return str(row.energy_measured)
+    return f"from {write(row.first_reading_at)} to {write(row.last_reading_at)} only"
 
 
 def find_zone(store: Database, site: str) -> ZoneInfo:
@@ -142,7 +155,7 @@ def write_row(row: Row, notes: Notes, details: Details, tokens: str) -> list[str
         row.state,
         *map(csv_cell, cells_of(row.sent_id, (details,), tokens)),
         row.settled or "",
-        "yes" if row.measured else "no",
+        describe_measured(row),
         write_signed_kwh(row.import_sum),
         write_signed_kwh(row.export_sum),
         csv_cell("; ".join(notes.adjustments)),

@@ -27,7 +27,7 @@ from operator import attrgetter
 from pathlib import Path
 from typing import Any, NamedTuple
 
-from ocpp_board.energies import kwh_of
+from ocpp_board.energies import MWH_OF_A_KWH
 from ocpp_board.escapes import csv_cell
 from ocpp_board.ledger.findings import Effect, Kind
 from ocpp_board.messages.bills import (
@@ -39,6 +39,7 @@ from ocpp_board.messages.bills import (
     write_signed,
 )
 from ocpp_board.store.database import Database, Row, count_days
+from ocpp_board.writers.bills import describe_measured
 from ocpp_board.writers.calendar import MOMENT, Calendar, find_calendar
 from ocpp_board.writers.files import name_file
 
@@ -51,12 +52,12 @@ MOST_DAYS = 8
 # The time of an operator's line whose source has none.
 NO_TIME = datetime(2000, 1, 1, tzinfo=timezone.utc)
 FLOWS = [
-    "up (mWh)",
-    "down (mWh)",
+    "up (milliwatt_hours)",
+    "down (milliwatt_hours)",
     "up (kWh)",
     "down (kWh)",
-    "export up (mWh)",
-    "export down (mWh)",
+    "export up (milliwatt_hours)",
+    "export down (milliwatt_hours)",
     "export up (kWh)",
     "export down (kWh)",
 ]
@@ -129,15 +130,16 @@ def write_text(rows: Iterable[Iterable[Cell]]) -> str:
 
 
 @lru_cache(KEPT)
-def write_signed_kwh(mwh: int) -> str:
-    """An energy in kWh, exactly, which may be negative."""
-    return f"{'-' if mwh < 0 else ''}{kwh_of(abs(mwh))}"
+def write_kwh(mwh: int) -> str:
+    """An energy in kWh with six decimals, which may be negative."""
+    whole, part = divmod(abs(mwh), MWH_OF_A_KWH)
+    return f"{'-' if mwh < 0 else ''}{whole}.{part:06}"
 
 
 def write_flow(up: int, down: int, export_up: int, export_down: int) -> list[Cell]:
     """The cells of an energy."""
-    imported: list[Cell] = [up, down, kwh_of(up), kwh_of(down)]
-    return imported + [export_up, export_down, kwh_of(export_up), kwh_of(export_down)]
+    imported: list[Cell] = [up, down, write_kwh(up), write_kwh(down)]
+    return imported + [export_up, export_down, write_kwh(export_up), write_kwh(export_down)]
 
 
 def find_net(row: Row) -> int:
@@ -147,7 +149,7 @@ def find_net(row: Row) -> int:
 
 def write_register(mwh: int | None) -> str:
     """The cell of a register; empty where it was not read."""
-    return "" if mwh is None else kwh_of(mwh)
+    return "" if mwh is None else write_kwh(mwh)
 
 
 def list_sites(store: Database) -> list[Site]:
@@ -397,9 +399,7 @@ class SiteTables:
             figures = write_figures(row.up, row.down, row.export_up, row.export_down)
             figure = "estimated" if row.estimated else "measured"
             lacks = "yes" if row.lacks_numbers else "no"
-            yield (
-                f"{front},{times},{figures},{figure},{write_signed_kwh(row.shared)},{lacks},{end}"
-            )
+            yield (f"{front},{times},{figures},{figure},{write_kwh(row.shared)},{lacks},{end}")
 
     # Transactions -----------------------------------------------------------------------------------------------------
 
@@ -414,10 +414,10 @@ class SiteTables:
         """Writes the table of transactions of these rows, and of those that are text. Raises OSError."""
         ends = [head for name in ("start", "end") for head in self.moment_heads(name)]
         heads = ["site", "station", "transaction", "EVSE (0: not named)", "events", "first seqNo"]
-        heads += ["last seqNo", "complete", "missing", "gaps (from..to)", *FLOWS, "state"]
+        heads += ["last seqNo", "messages complete", "missing", "gaps (from..to)", *FLOWS, "state"]
         heads += ["net (kWh)", *ends, "duration (s)", "first register (kWh)", "last register (kWh)"]
         heads += ["first export register (kWh)", "last export register (kWh)", "stopped reason"]
-        heads += ["findings", *BILL_HEADS, "readings"]
+        heads += ["findings", *BILL_HEADS, "readings", "energy measured"]
         write_csv(self.path("transactions"), heads, rows, texts)
 
     def list_transactions(self, station: str | None = None) -> Iterator[list[Cell]]:
@@ -452,7 +452,7 @@ class SiteTables:
             *(row.evse, row.events, row.first_number, row.last_number),
             *("yes" if row.complete else "no", row.missing, row.gaps),
             *write_flow(row.up, row.down, row.export_up, row.export_down),
-            *(row.state, write_signed_kwh(find_net(row))),
+            *(row.state, write_kwh(find_net(row))),
             *self.moments(row.began),
             *self.moments(row.ended),
             seconds,
@@ -460,7 +460,8 @@ class SiteTables:
             self.cell(row.stopped_reason),
             "; ".join(kinds),
             *map(self.cell, self.write_bill(row)),
-            self.order,
+            f"by {row.own_order}" if row.own_order else self.order,
+            describe_measured(row),
         ]
 
     def write_bill(self, row: Row) -> list[str]:
@@ -758,9 +759,9 @@ def write_period(calendar: Calendar, start: datetime, seconds: int) -> str:
 
 def write_figures(up: int, down: int, export_up: int, export_down: int) -> str:
     """The energies of a period, and the net one."""
-    imported = f"{up},{down},{kwh_of(up)},{kwh_of(down)}"
-    exported = f"{export_up},{export_down},{kwh_of(export_up)},{kwh_of(export_down)}"
-    return f"{imported},{exported},{write_signed_kwh(up - down - export_up + export_down)}"
+    imported = f"{up},{down},{write_kwh(up)},{write_kwh(down)}"
+    exported = f"{export_up},{export_down},{write_kwh(export_up)},{write_kwh(export_down)}"
+    return f"{imported},{exported},{write_kwh(up - down - export_up + export_down)}"
 
 
 def is_still(row: Row) -> bool:
