@@ -150,10 +150,17 @@ written_as() {
     local port=$((20000 + RANDOM % 10000))
     mkdir -p "$made/as_written"
     {
+        # A follower is ended by a signal once its pages are there.
+        echo "followed() {
+            rm -f $made/as_written/live/index.html
+            \"\$@\" & local follower=\$! waits=300
+            until [ -s $made/as_written/live/index.html ] || [ \$((waits -= 1)) = 0 ]; do sleep 1; done
+            sleep 3; kill -INT \$follower; wait \$follower
+        }"
         sed -n '/^```sh$/,/^```$/{/^```/!p}; s/^    //p' "$top/$1" | sed "/^\.\/start\|^\.ci\/run\|tests\/run\|packaging\/\|apt-get /d
             s|/tmp/|$made/as_written/|g; s/\b9000\b/$port/g; s/\b9100\b/$((port + 1))/g; s/\b9180\b/$((port + 2))/g
             s|crates/ocpp_board/out/ocpp_board|$program|
-            s|^python/ocpp-board follow|timeout -s INT --preserve-status 15 python/ocpp-board follow|"
+            s|^python/ocpp-board follow|followed python/ocpp-board follow|"
         # What was started in the background ends with the page.
         echo 'for job in $(jobs -p); do sleep 3; kill -0 $job && kill -INT $job || true; done; wait'
     } > "$made/written.sh"

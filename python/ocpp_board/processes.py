@@ -31,8 +31,8 @@ def environment() -> dict[str, str]:
 
 @contextmanager
 def pause_collector() -> Iterator[None]:
-    """Has Python look for no circles of objects meanwhile. Where many messages are at hand that takes a fifth of the time,
-    and what they need is in no circle."""
+    """Has Python look for no circles of objects meanwhile. Where many messages are at hand that takes a fifth of the
+    time, and they make none."""
     gc.disable()
     try:
         yield

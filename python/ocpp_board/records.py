@@ -116,6 +116,13 @@ class Rules:
     resolution: int = 10
 
 
+class Quota(NamedTuple):
+    """A site's quotas for each of its stations: open transactions, and bytes a day; 0: any number."""
+
+    open: int = 0
+    bytes: int = 0
+
+
 class Line(NamedTuple):
     """A line that changed a transaction. `text`: `deliver STATION MESSAGE`, or `void STATION TRANSACTION NUMBER` and
     so on; `number`: its place among the lines of its transaction, from 1."""

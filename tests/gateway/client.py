@@ -4,12 +4,15 @@ import asyncio
 import base64
 import json
 import ssl
+from datetime import datetime, timedelta, timezone
 from typing import Any
 
 from websockets.exceptions import ConnectionClosed, InvalidStatusCode
 from websockets.legacy.client import WebSocketClientProtocol, connect
 
 PASSWORD = "a password of 16+"
+# The moment of the first event.
+BEGIN = datetime(2026, 3, 1, tzinfo=timezone.utc)
 
 
 def make_login(station: str, password: str = PASSWORD) -> str:
@@ -76,12 +79,10 @@ def make_reply(transaction: str, number: int) -> str:
 def make_event(
     transaction: str, number: int, of: int = 0, start: int = 0, message: str = ""
 ) -> str:
-    """A TransactionEvent: the first begins the transaction, and number `of` - 1 ends it. There is one a minute, and
-    each reads 100 Wh more."""
+    """A TransactionEvent: the first begins the transaction, and number `of` - 1 ends it. There is one a minute, from
+    `start` seconds after BEGIN on, and each reads 100 Wh more."""
     kind = "Started" if number == 0 else "Ended" if number == of - 1 else "Updated"
-    seconds = start + 60 * number
-    day, seconds = divmod(seconds, 86_400)
-    at = f"2026-03-{1 + day:02}T{seconds // 3600:02}:{seconds // 60 % 60:02}:{seconds % 60:02}Z"
+    at = f"{BEGIN + timedelta(seconds=start + 60 * number):%Y-%m-%dT%H:%M:%SZ}"
     payload: dict[str, Any] = {
         "eventType": kind,
         "timestamp": at,

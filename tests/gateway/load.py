@@ -14,11 +14,12 @@ import os
 import random
 import sys
 import time
+from asyncio import FIRST_COMPLETED
 from dataclasses import dataclass, field
 from typing import cast
 from urllib.parse import urlsplit
 
-from tests.gateway.client import PASSWORD, make_event, make_login
+from tests.gateway.client import BEGIN, PASSWORD, make_event, make_login
 
 # Seconds until a station that got no reply connects anew, and until one that lost its connection does so.
 PATIENCE, PAUSE = 60.0, 0.1
@@ -137,8 +138,12 @@ class Station(asyncio.Protocol):
     def __init__(self, load: Load, number: int) -> None:
         plan = load.plan
         self.load, self.name, self.turn = load, f"L-{number}", number
+        # The last transaction ends about now, so that no clock is far from the time of receipt for long.
+        first = int(time.time() - BEGIN.timestamp()) - 60 * plan.events * plan.rounds
         self.rest = [
-            make_sent(f"{self.name}.{plan.start}.{one}", k, plan.events, 86_400 * (one % 25))
+            make_sent(
+                f"{self.name}.{plan.start}.{one}", k, plan.events, first + 60 * plan.events * one
+            )
             for one in range(plan.rounds)
             for k in range(plan.events)
         ]
@@ -149,6 +154,7 @@ class Station(asyncio.Protocol):
         self.transport: asyncio.Transport | None = None
         self.buffer = bytearray()
         self.is_in = False
+        self.entered: asyncio.Future[None] = asyncio.get_running_loop().create_future()
         self.ended: asyncio.Future[None] = asyncio.get_running_loop().create_future()
 
     async def play(self) -> None:
@@ -159,7 +165,7 @@ class Station(asyncio.Protocol):
         while self.rest:
             url = urlsplit(plan.urls[self.turn % len(plan.urls)])
             self.turn += 1
-            self.ended = loop.create_future()
+            self.entered, self.ended = loop.create_future(), loop.create_future()
             self.buffer.clear()
             self.is_in = False
             try:
@@ -170,9 +176,9 @@ class Station(asyncio.Protocol):
                     login = make_login(self.name, plan.password)
                     head = HANDSHAKE.format(path=url.path, station=self.name, login=login)
                     self.transport.write(head.encode())
-                    async with asyncio.timeout(PATIENCE):
-                        while not self.is_in and not self.ended.done():
-                            await asyncio.sleep(0.005)
+                    await asyncio.wait(
+                        [self.entered, self.ended], timeout=PATIENCE, return_when=FIRST_COMPLETED
+                    )
                 await self.wait_for_end()
             except (OSError, TimeoutError):
                 if self.transport:
@@ -184,6 +190,8 @@ class Station(asyncio.Protocol):
         """Waits until the connection ends. One whose message has no reply for too long is ended."""
         while not self.ended.done():
             await asyncio.wait([self.ended], timeout=PATIENCE / 4)
+            if not self.is_in:
+                raise TimeoutError
             if self.sent and self.sent < time.monotonic() - PATIENCE and not self.ended.done():
                 self.load.seen.late += 1
                 raise TimeoutError
@@ -207,6 +215,7 @@ class Station(asyncio.Protocol):
                 return
             del self.buffer[: end + 4]
             self.is_in = True
+            self.entered.set_result(None)
             if not self.first:
                 self.load.note_here()
             self.begin()

@@ -111,4 +111,5 @@ def test_a_process_that_is_stopped_lets_go_of_what_it_holds(
                 assert beside.result(20) == make_reply("t", 0)
                 store.fetch("select lines from session where station = 'CS-0'")
         store.close()
+    monkeypatch.undo()
     assert [one.outcome for one in first.settle(asked)] == ["repeat"]

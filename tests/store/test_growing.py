@@ -12,7 +12,7 @@ from ocpp_board.errors import StoreError
 from ocpp_board.ledger.course import Course
 from ocpp_board.ledger.engine import change_site, settle
 from ocpp_board.ledger.program import Program
-from ocpp_board.ledger.rows import CONFLICT, Work, list_accepted, rows_of, work_out
+from ocpp_board.ledger.rows import CONFLICT, Work, rows_of, work_out
 from ocpp_board.records import DEEDS, DELIVER, Line, Rules
 from ocpp_board.store.database import Database
 from ocpp_board.store.lines import Warm
@@ -91,7 +91,7 @@ def test_rows_by_growing(program: Program) -> None:
             (done,) = work_out(program, [work])
             if done.rows is None:
                 continue
-            stored = [*stored, *list_accepted(work, done.answers)]
+            stored = [*stored, *done.accepted]
             if done.answers[0].name == CONFLICT and line.text.startswith(DELIVER):
                 conflicts = [*dict.fromkeys([*conflicts, line.text])]
             wanted = rows_of(program, stored, rules, "CS-01", "t1", "north", conflicts)

@@ -8,6 +8,7 @@ import threading
 import time
 from collections.abc import Iterator, Mapping
 from dataclasses import dataclass, field
+from datetime import date
 from pathlib import Path
 from typing import Any
 from urllib.parse import quote, urlencode
@@ -18,6 +19,7 @@ import uvicorn
 from ocpp_board.energies import kwh
 from ocpp_board.errors import InputError
 from ocpp_board.ledger.engine import settle
+from ocpp_board.store.closing import close_day
 from ocpp_board.store.database import Database, open_store
 from ocpp_board.web.api import read_description
 from ocpp_board.web.app import make_app
@@ -47,6 +49,8 @@ PAGES = {
     "/site/riverside/lacking": "Sessions that lack messages, site riverside",
     "/site/riverside/refused": "Refused messages, site riverside",
     "/site/riverside/deeds": "What operators did, site riverside",
+    "/site/riverside/closings": "Closings, site riverside",
+    "/site/riverside/closing/1": "Closing 1 of site riverside",
     "/site/riverside/month/2026-03": "Site riverside, March 2026",
     "/site/riverside/day/2026-03-02": "Site riverside, Mon 2026-03-02",
     STATION: "Station RV-FAST-01",
@@ -125,6 +129,7 @@ def running_web(store: Database) -> Iterator[Web]:
     # Two sessions of which the beginning is not there, which are findings.
     late = (write_event(f"T{one}", 3, "Updated", 0, [(0, 1_000)]) for one in (1, 2))
     settle(store, [message("CS-01", text, 0, "late") for text in late])
+    close_day(store, "riverside", date(2026, 3, 2), "jo")
     write_operator(store, "jo", "operator", [], AUTHOR)
     write_operator(store, "ann", "reader", ["north"], AUTHOR)
     for name in ("jo", "ann"):

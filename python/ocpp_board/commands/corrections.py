@@ -16,9 +16,10 @@ from zoneinfo import ZoneInfo
 from ocpp_board.commands.options import add_form, add_site, add_store, read_day
 from ocpp_board.escapes import csv_cell
 from ocpp_board.statuses import Status
-from ocpp_board.store.closing import list_causes, list_corrections
+from ocpp_board.store.closing import list_corrections
 from ocpp_board.store.database import Database, Row, open_store
 from ocpp_board.writers.bills import find_zone, write_csv, write_moment, write_signed_kwh
+from ocpp_board.writers.causes import describe_causes
 
 HEADS = (
     *(
@@ -44,15 +45,6 @@ def add_words(parser: argparse.ArgumentParser) -> None:
     )
 
 
-def describe_line(row: Row) -> str:
-    """A line in a few words: its place, what it is, when it came, who asked for it and why."""
-    word, _, rest = row.line.partition(" ")
-    what = "message" if word == "deliver" else f"{word} of event {rest.split(' ')[-1]}"
-    at = f" at {write_moment(row.received)}" if row.received else ""
-    who = f" by {row.who}: {row.why}" if row.who else ""
-    return f"{row.number}: {what}{at}{who}"
-
-
 def list_rows(store: Database, site: str, since: date) -> Iterator[list[str]]:
     """The heads, then a row for each correction."""
     zone = find_zone(store, site)
@@ -62,8 +54,7 @@ def list_rows(store: Database, site: str, since: date) -> Iterator[list[str]]:
     for row in list_corrections(store, site, first):
         key = row.station, row.transaction_id, row.first_line, row.last_line
         if key not in known:
-            lines = "; ".join(map(describe_line, list_causes(store, *key)))
-            known[key] = lines or "no line: the session's rules changed"
+            known[key] = describe_causes(store, *key)
         yield write_row(row, zone, known[key])
 
 

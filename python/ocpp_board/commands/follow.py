@@ -32,18 +32,11 @@ from types import FrameType
 from typing import Any
 
 from ocpp_board.commands.loading import BATCH, Loader, Wanted
-from ocpp_board.commands.options import (
-    add_power,
-    add_program,
-    add_store,
-    add_tokens,
-    add_zones,
-    choose_program,
-)
+from ocpp_board.commands.options import add_log_options, add_store, choose_program
 from ocpp_board.commands.reading import Meter
 from ocpp_board.commands.renewing import Renewer, Shown
 from ocpp_board.commands.report import count_of, open_pool
-from ocpp_board.errors import InputError, OcppBoardError, StoreError, UsageError
+from ocpp_board.errors import InputError, StoreError, UsageError
 from ocpp_board.escapes import shown, without_controls
 from ocpp_board.ledger.engine import Pool, settle, take_strays
 from ocpp_board.limits import GREATEST_SEQ_NO
@@ -55,7 +48,7 @@ from ocpp_board.sources.follow import Follower, Place
 from ocpp_board.sources.forms import Shape, choose_shape
 from ocpp_board.sources.log import LogReader
 from ocpp_board.sources.script import is_number
-from ocpp_board.sources.stations import StorePlan, add_rules, add_utc, choose_plan, read_pairs
+from ocpp_board.sources.stations import StorePlan, choose_plan, read_pairs
 from ocpp_board.statuses import Status
 from ocpp_board.store.database import Database, open_store
 from ocpp_board.store.lines import note_left_out
@@ -133,14 +126,7 @@ def add_words(parser: argparse.ArgumentParser) -> None:
         action="store_true",
         help="take what the logs have, write the pages and tables, and end",
     )
-    forms.add_form(parser)
-    forms.add_fields(parser, ("station", "time", "message"))
-    add_utc(parser)
-    add_rules(parser)
-    add_zones(parser)
-    add_power(parser)
-    add_tokens(parser)
-    add_program(parser)
+    add_log_options(parser, ("station", "time", "message"))
     parser.set_defaults(site_map=None)
 
 
@@ -552,13 +538,10 @@ def run(words: argparse.Namespace) -> int:
     """Does what the words ask for, and gives the exit status."""
     options = choose_options(words.parser, words)
     choose_program(words.program)
-    try:
-        with open_pool(options.processes) as pool, open_store(options.store) as store:
-            follow = Follow(options, store, pool)
-            threading.Thread(target=read_lines, args=(follow.lines,), daemon=True).start()
-            out = f"; pages are in {options.shown.out}" if options.shown else ""
-            log.info("follows %s into %s%s", ", ".join(map(str, options.logs)), options.store, out)
-            with end_by_signals(follow):
-                return follow.run()
-    except OcppBoardError:
-        raise
+    with open_pool(options.processes) as pool, open_store(options.store) as store:
+        follow = Follow(options, store, pool)
+        threading.Thread(target=read_lines, args=(follow.lines,), daemon=True).start()
+        out = f"; pages are in {options.shown.out}" if options.shown else ""
+        log.info("follows %s into %s%s", ", ".join(map(str, options.logs)), options.store, out)
+        with end_by_signals(follow):
+            return follow.run()

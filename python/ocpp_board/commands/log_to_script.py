@@ -249,7 +249,9 @@ class Scripts(Script):
             for path, out, share in zip(paths, outs, shares):
                 out.write(self.plan.ask_boards(share))
                 if out.tell() > LONGEST_SCRIPT:
-                    raise UsageError(f"{path} has more than {LONGEST_SCRIPT:,} bytes: part the log")
+                    raise UsageError(
+                        f"{path} has more than {LONGEST_SCRIPT:,} bytes: split the log"
+                    )
                 sites = ", ".join(dict.fromkeys(share.values()))
                 log.info("%s: %d stations of %s", path, len(share), sites)
 

@@ -14,6 +14,8 @@ from ocpp_board.escapes import shown
 from ocpp_board.ledger.findings import MOST_KW
 from ocpp_board.ledger.program import LIBRARY_NAME, PROGRAM_NAME, find_program
 from ocpp_board.limits import is_name
+from ocpp_board.sources import forms
+from ocpp_board.sources.stations import add_rules, add_utc
 from ocpp_board.store.plan import Author
 from ocpp_board.writers.tokens import TOKENS
 
@@ -109,6 +111,18 @@ def add_zones(parser: argparse.ArgumentParser) -> None:
         default=[],
         help="the time zone of SITE, or of every other site, such as Europe/Berlin (default: UTC)",
     )
+
+
+def add_log_options(parser: argparse.ArgumentParser, fields: tuple[str, ...]) -> None:
+    """The options of a command that takes logs into a store. `fields`: what options name in a line of a log."""
+    forms.add_form(parser)
+    forms.add_fields(parser, fields)
+    add_utc(parser)
+    add_rules(parser)
+    add_zones(parser)
+    add_power(parser)
+    add_tokens(parser)
+    add_program(parser)
 
 
 def find_by_site(asked: Mapping[str, str], site: str) -> str | None:

@@ -7,7 +7,7 @@ from dataclasses import dataclass, replace
 from datetime import date, datetime, timedelta, timezone
 from pathlib import Path
 
-from ocpp_board.store.database import Database, Row, open_again
+from ocpp_board.store.database import Database, Row, count_hours, open_again
 from ocpp_board.writers import pages
 from ocpp_board.writers.calendar import find_calendar
 from ocpp_board.writers.copies import share_work
@@ -93,6 +93,7 @@ class Renewer:
         if found:
             self.pages += self.writer.write_changed(found)
             self.write_tables(found, rows)
+        self.pages += self.writer.write_new_closings()
         if found or now > self.mark + LATE / 2:
             self.note_seen(now)
             self.write_mark(now)
@@ -101,8 +102,9 @@ class Renewer:
         """The transactions that changed since a moment and were not written since."""
         rows = self.store.fetch(
             "select station, transaction_id, site, first_at, last_at, changed_at from session "
-            "where changed_at >= :mark",
+            "where changed_hour >= :hour and changed_at >= :mark",
             mark=mark - LATE,
+            hour=count_hours(mark - LATE),
         )
         new = [
             row

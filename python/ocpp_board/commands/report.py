@@ -27,14 +27,7 @@ from typing import Any
 
 from ocpp_board.commands.ahead import run_ahead
 from ocpp_board.commands.loading import Loader, Wanted
-from ocpp_board.commands.options import (
-    add_power,
-    add_program,
-    add_store,
-    add_tokens,
-    add_zones,
-    choose_program,
-)
+from ocpp_board.commands.options import add_log_options, add_store, choose_program
 from ocpp_board.commands.reading import Batch, BatchReader, Meter, ReadOptions
 from ocpp_board.errors import InputError
 from ocpp_board.ledger.settlers import Settlers
@@ -42,7 +35,7 @@ from ocpp_board.ledger.verify import verify
 from ocpp_board.processes import leave_interrupts, pause_collector
 from ocpp_board.sources import forms
 from ocpp_board.sources.forms import Shape, choose_shape
-from ocpp_board.sources.stations import add_rules, add_sites, add_utc, choose_plan
+from ocpp_board.sources.stations import add_sites, choose_plan
 from ocpp_board.statuses import Status
 from ocpp_board.store.database import Database, open_again, open_store
 from ocpp_board.store.plan import Author
@@ -83,21 +76,14 @@ def add_words(parser: argparse.ArgumentParser) -> None:
     )
     parser.add_argument("--out", metavar="DIR", type=Path, required=True, help="where files go")
     add_store(parser, is_required=False)
-    forms.add_form(parser)
-    forms.add_fields(parser, forms.FIELDS)
+    add_log_options(parser, forms.FIELDS)
     add_sites(parser)
     parser.add_argument(
         "--stations",
         metavar="FILE",
         help="the stations: a site and a station a line; messages of others are listed and change nothing",
     )
-    add_utc(parser)
-    add_rules(parser)
-    add_zones(parser)
-    add_power(parser)
-    add_tokens(parser)
     add_tables(parser)
-    add_program(parser)
     parser.add_argument(
         "--processes",
         metavar="N",

@@ -1,4 +1,4 @@
-"""Take messages that were refused, or leave them out: each waits in the store until somebody decides.
+"""Takes messages that were refused, or leaves them out: each waits in the store until somebody decides.
 
     ocpp-board take --store ledger.db                                                      # list what waits
     ocpp-board take --store ledger.db CS-01 --mend unit --why "the vendor writes KWH"

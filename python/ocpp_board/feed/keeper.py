@@ -62,6 +62,7 @@ class Keeper:
             try:
                 if self.store is None:
                     self.store = open_store(self.address)
+                    self.store.plan_once()
                 answers = settle(self.store, messages)
             except StoreAway as fault:
                 store, self.store = self.store, None

@@ -1,13 +1,14 @@
 """A gateway: stations' connections, and what answers them."""
 
 import asyncio
+import inspect
 import logging
 import os
 import secrets
 import signal
 import time
 from collections import Counter
-from collections.abc import Sequence
+from collections.abc import Awaitable, Callable, Sequence
 from dataclasses import dataclass, field
 from typing import Any
 
@@ -261,7 +262,7 @@ class Gateway:
         more: dict[str, Any] = {"ssl_handshake_timeout": HANDSHAKE} if context else {}
         try:
             server = await serve(
-                self.serve_station,
+                make_handler(self),
                 self.options.host,
                 self.options.port,
                 create_protocol=make_socket(self),
@@ -302,6 +303,16 @@ class Gateway:
             await asyncio.wait([asyncio.ensure_future(server.wait_closed())], timeout=LAST)
             for job in jobs:
                 job.cancel()
+
+
+def make_handler(gateway: Gateway) -> Callable[[WebSocketServerProtocol], Awaitable[None]]:
+    """What serves a connection. The library asks for its signature with each connection, so that is kept."""
+
+    async def serve_station(protocol: WebSocketServerProtocol) -> None:
+        await gateway.serve_station(protocol)
+
+    serve_station.__signature__ = inspect.signature(serve_station)  # type: ignore[attr-defined]
+    return serve_station
 
 
 def use_uvloop() -> None:

@@ -62,6 +62,7 @@ class Desk:
     def open_store(self) -> Database:
         """Opens the store. Raises StoreError."""
         store = open_store(self.address)
+        store.plan_once()
         if store.kind == "postgresql":
             store.execute(f"set idle_in_transaction_session_timeout = {1000 * SILENT:.0f}")
         return store

@@ -12,34 +12,31 @@ from ocpp_board.messages.bills import NOTHING, Details, Signed
 from ocpp_board.messages.transactions import Event
 from ocpp_board.records import DELIVER, Line, Rules
 
-# Readings of one message that count, at most, and the least bytes of one.
-MOST_OF_A_MESSAGE, LEAST_READING = 1_024, 11
+# The least bytes of a reading.
+LEAST_READING = 11
 
 
-class Room(NamedTuple):
-    """What a script has to keep of lines: their events and readings, at most, and their characters."""
+class Block(NamedTuple):
+    """Lines as a script has them, how many they are, and the readings that they have at most."""
 
-    events: int = 0
+    text: str = ""
+    lines: int = 0
     readings: int = 0
-    size: int = 0
 
-    def add(self, lines: Sequence[Line]) -> "Room":
+    def add(self, lines: Sequence[Line]) -> "Block":
         """With further lines."""
-        events, readings, size = self
-        for line in lines:
-            text = line.text
-            size += len(text)
-            if text.startswith(DELIVER):
-                events += 1
-                readings += count_readings(text)
-        return Room(events, readings, size)
+        text = "".join([f"{line.text}\n" for line in lines])
+        if "\\" in text:
+            readings = len(text) // LEAST_READING
+        else:
+            readings = text.count('"value"')
+        if "\r\n" in text:
+            # The program drops one carriage return before a line feed: a message's own stays.
+            text = text.replace("\r\n", "\r\r\n")
+        return Block(self.text + text, self.lines + len(lines), self.readings + readings)
 
 
-def count_readings(text: str) -> int:
-    """How many readings a text has, at most."""
-    if "\\" in text:
-        return min(MOST_OF_A_MESSAGE, len(text) // LEAST_READING + 1)
-    return min(MOST_OF_A_MESSAGE, text.count('"value"'))
+NO_LINES = Block()
 
 
 class Facts:
@@ -115,8 +112,7 @@ class Course:
     """What is known of the lines of a transaction, and of what the program lists of them."""
 
     def __init__(self, site: str, rules: Rules) -> None:
-        self.rules, self.count = rules, 0
-        self.room, self.history = Room(), History()
+        self.rules, self.block, self.history = rules, NO_LINES, History()
         self.lists = Lists([], [], [])
         self.events, self.facts, self.spans = (
             LiveEvents(),
@@ -136,8 +132,7 @@ class Course:
 
     def take(self, lines: Sequence[Line], lists: Lists) -> None:
         """Takes further lines, and what these lists have behind those of the lines before."""
-        self.count += len(lines)
-        self.room = self.room.add(lines)
+        self.block = self.block.add(lines)
         self.history.take(lines)
         new = Lists(*(now[len(known) :] for now, known in zip(lists, self.lists)))
         self.lists = lists

@@ -6,7 +6,7 @@ answer is given only after the commit. A failure gives none, and the same may co
 """
 
 import re
-from collections.abc import Callable, Iterable, Iterator, Sequence
+from collections.abc import Callable, Collection, Iterable, Iterator, Sequence
 from contextlib import AbstractContextManager, nullcontext
 from dataclasses import dataclass, field
 from datetime import datetime, timezone
@@ -22,7 +22,6 @@ from ocpp_board.ledger.quotas import (
     FLOODS,
     TOO_MANY_STRAYS,
     Asking,
-    find_quotas,
     find_refused,
     find_strays_above,
     write_reply,
@@ -42,7 +41,7 @@ from ocpp_board.ledger.refusals import (
     name_cause,
     read_levels,
 )
-from ocpp_board.ledger.rows import Done, Work, list_accepted, work_out
+from ocpp_board.ledger.rows import Done, Work, work_out
 from ocpp_board.limits import FIRST_MOMENT
 from ocpp_board.messages.texts import is_unanswered, one_line
 from ocpp_board.messages.times import SECOND
@@ -53,9 +52,11 @@ from ocpp_board.store.lines import Held, Kept, Key, Warm, Writer, Written
 from ocpp_board.store.plan import (
     RULES_COLUMNS,
     Author,
-    lock_sites,
+    Planned,
+    find_planned,
     own_rules,
     read_rules,
+    share_sites,
     write_power,
     write_site,
 )
@@ -114,7 +115,7 @@ class Batch:
 Foreseen = dict[Key, tuple[Work, Done]]
 
 
-class Piece(NamedTuple):
+class Share(NamedTuple):
     """The transactions that a process works on."""
 
     keys: list[Key]
@@ -259,16 +260,17 @@ def write_batch(
     store: Database, batch: Batch, pool: Pool | None, warm: Warm | None, foreseen: Foreseen
 ) -> dict[Key, Kept]:
     """Writes what a batch changes, within a database transaction, and answers the rest of it."""
-    sites = hold_sites(store, batch)
+    planned = hold_sites(store, batch, warm)
+    sites = planned.sites
     leave_strays(batch, sites)
     refuse_strays(store, batch)
-    refuse_by_quotas(store, batch, sites)
+    refuse_by_quotas(store, batch, planned)
     held = store_lines.hold_sessions(
         store, {key: sites[key[0]] for key in batch.sessions if key[0] in sites}, warm
     )
     deeds = find_done(store, batch)
     batch.answers |= deeds
-    works = make_works(store, batch, held, deeds)
+    works = make_works(store, batch, held, deeds, planned)
     writer, kept = Writer(store), dict[Key, Kept]()
     for key, work, done in work_on(works, pool, foreseen):
         take_answers(store, batch, work, done, held[key], deeds)
@@ -284,15 +286,20 @@ def write_batch(
 
 
 def make_works(
-    store: Database, batch: Batch, held: dict[Key, Held], deeds: dict[int, Answer]
+    store: Database,
+    batch: Batch,
+    held: dict[Key, Held],
+    deeds: dict[int, Answer],
+    planned: Planned,
 ) -> dict[Key, Work]:
     """The works of transactions that are held."""
-    rules = find_all_rules(store, {one.site for one in held.values()})
-    powers = find_powers(store, held)
+    # A station that moved leaves the transactions that it began where they are.
+    others = {one.site for one in held.values()} - planned.rules.keys()
+    rules = planned.rules | find_all_rules(store, others)
     works = dict[Key, Work]()
     for key, one in held.items():
         new = list_new(batch, batch.sessions[key], deeds)
-        own = own_rules(rules[one.site], one.own_order, powers.get(key[0]))
+        own = own_rules(rules[one.site], one.own_order, planned.powers.get(key[0]))
         course: Course | None = one.kept.course if one.kept else None
         if course is not None and course.rules != own:
             # All rows were computed again meanwhile.
@@ -311,25 +318,26 @@ def find_powers(store: Database, keys: Iterable[Key]) -> dict[str, int]:
 def foresee(store: Database, batch: Batch) -> Foreseen:
     """What will become of a batch's transactions, if nobody changes them meanwhile."""
     with store.snapshot():
-        sites = store_lines.find_sites(store, sorted({key[0] for key in batch.sessions}))
+        planned = find_planned(store, sorted({key[0] for key in batch.sessions}))
+        sites = planned.sites
         known = {key: sites[key[0]] for key in batch.sessions if key[0] in sites}
-        works = make_works(
-            store, batch, store_lines.hold_sessions(store, known), find_done(store, batch)
-        )
+        held = store_lines.hold_sessions(store, known)
+        works = make_works(store, batch, held, find_done(store, batch), planned)
     return {key: (work, done) for key, work, done in work_on(works, None)}
 
 
-def hold_sites(store: Database, batch: Batch) -> dict[str, str]:
-    """The sites of the batch's stations; their plan does not change up to the end of the database transaction."""
+def hold_sites(store: Database, batch: Batch, warm: Warm | None) -> Planned:
+    """What the plan has of the batch's stations; it does not change up to the end of the database transaction."""
     stations = sorted({key[0] for key in batch.sessions} | {one.station for one in batch.others})
+    if store.kind != "postgresql":
+        return find_planned(store, stations)
+    # Transactions that a station began at another site have that one's rules.
+    others = store_lines.find_session_sites(store, list(batch.sessions), warm)
     while True:
-        sites = store_lines.find_sites(store, stations)
-        if store.kind != "postgresql":
-            return sites
-        known = store_lines.find_session_sites(store, list(batch.sessions))
-        lock_sites(store, [*sites.values(), *known.values()], False)
-        if store_lines.find_sites(store, stations) == sites:
-            return sites
+        shared = share_sites(store, stations, others)
+        planned = find_planned(store, stations)
+        if shared.issuperset(planned.sites.values()):
+            return planned
 
 
 def leave_strays(batch: Batch, sites: dict[str, str]) -> None:
@@ -360,9 +368,9 @@ def refuse_strays(store: Database, batch: Batch) -> None:
     batch.strays = [one for one, key in zip(batch.strays, texts) if key not in above]
 
 
-def refuse_by_quotas(store: Database, batch: Batch, sites: dict[str, str]) -> None:
+def refuse_by_quotas(store: Database, batch: Batch, planned: Planned) -> None:
     """Answers messages that are above a quota of their site, which change nothing."""
-    quotas = find_quotas(store, sorted(set(sites.values())))
+    sites, quotas = planned.sites, {site: one for site, one in planned.quotas.items() if any(one)}
     if not quotas:
         return
     asking = [
@@ -400,8 +408,10 @@ def refuse_message(batch: Batch, place: int, name: str) -> None:
     batch.answers[place] = Answer("refused", name, write_reply(one.text, name))
 
 
-def find_all_rules(store: Database, sites: Iterable[str]) -> dict[str, Rules]:
+def find_all_rules(store: Database, sites: Collection[str]) -> dict[str, Rules]:
     """The rules of sites."""
+    if not sites:
+        return {}
     asked = f"select site, {RULES_COLUMNS} from site where site"
     if store.kind == "postgresql":
         rows = store.fetch(f"{asked} = any(:sites)", sites=sorted(sites))
@@ -473,21 +483,21 @@ def work_on(
         for (key, work), done in zip(some.items(), work_out(find_program(), some.values())):
             yield key, work, done
         return
-    pieces = list(part_pieces(some))
+    pieces = list(part_works(some))
     for piece, found in zip(pieces, pool.imap(work_piece, (piece.works for piece in pieces))):
         yield from zip(piece.keys, piece.works, found)
 
 
-def part_pieces(works: dict[Key, Work]) -> Iterator[Piece]:
+def part_works(works: dict[Key, Work]) -> Iterator[Share]:
     """Works in pieces for the processes of a pool."""
-    piece, size = Piece([], []), 0
+    piece, size = Share([], []), 0
     for key, work in works.items():
         piece.keys.append(key)
         piece.works.append(work)
         size += sum(len(line.text) for line in (*work.stored, *work.new))
         if size > BYTES_AT_ONCE:
             yield piece
-            piece, size = Piece([], []), 0
+            piece, size = Share([], []), 0
     if piece.keys:
         yield piece
 
@@ -501,33 +511,52 @@ def take_answers(
     store: Database, batch: Batch, work: Work, done: Done, held: Held, deeds: dict[int, Answer]
 ) -> None:
     """Notes the answers to a transaction's lines."""
-    key, taken = (work.station, work.transaction), set[int]()
-    waiting = {row.digest for row in held.refusals}
+    key = work.station, work.transaction
     places = batch.sessions[key]
     if deeds:
         places = [place for place in places if place not in deeds]
+    batch.answers.update(zip(places, done.answers))
     for place, answer in zip(places, done.answers):
-        batch.answers[place] = answer
         one = batch.asked[place]
         if isinstance(one, Deed):
             write_deed(store, one, answer)
-        elif not isinstance(one, Message):
-            continue
-        elif answer.outcome in ("accepted", "repeat"):
-            taken.add(batch.wishes[place].number)
-            if one.came:
-                digest = digest_text(keep_text(one.came))
-                batch.decided.append(Decided(one.station, digest, MENDED))
-            elif waiting and (digest := digest_text(keep_text(one.text))) in waiting:
-                batch.decided.append(Decided(one.station, digest, TAKEN))
-        elif answer.outcome in ("refused", "fault"):
+        elif isinstance(one, Message) and answer.outcome in ("refused", "fault"):
             refusal = describe_message(one.text, answer.name, one.received)
             batch.refusals.append((one, refusal, key[1]))
-    untaken = [row for row in held.refusals if row.cause == UNTAKEN and row.number in taken]
+    if held.refusals or batch.mended:
+        taken = [
+            place
+            for place, answer in zip(places, done.answers)
+            if answer.outcome in ("accepted", "repeat")
+        ]
+        note_decided(batch, held, taken)
+        forget_untaken(store, batch, held, taken, key[0])
+
+
+def note_decided(batch: Batch, held: Held, taken: Iterable[int]) -> None:
+    """Notes texts that waited for a decision and are taken by now."""
+    waiting = {row.digest for row in held.refusals}
+    for place in taken:
+        one = batch.asked[place]
+        if not isinstance(one, Message):
+            continue
+        if one.came:
+            digest = digest_text(keep_text(one.came))
+            batch.decided.append(Decided(one.station, digest, MENDED))
+        elif waiting and (digest := digest_text(keep_text(one.text))) in waiting:
+            batch.decided.append(Decided(one.station, digest, TAKEN))
+
+
+def forget_untaken(
+    store: Database, batch: Batch, held: Held, taken: Iterable[int], station: str
+) -> None:
+    """Removes what no source could take of events that came by now."""
+    numbers = {batch.wishes[place].number for place in taken if place in batch.wishes}
+    untaken = [row for row in held.refusals if row.cause == UNTAKEN and row.number in numbers]
     if untaken:
         store.execute_each(
             "delete from refusal where station = :station and cause = :cause and digest = :digest",
-            [{"station": key[0], "cause": row.cause, "digest": row.digest} for row in untaken],
+            [{"station": station, "cause": row.cause, "digest": row.digest} for row in untaken],
         )
 
 
@@ -539,9 +568,8 @@ def write_rows(writer: Writer, work: Work, held: Held, done: Done) -> Kept | Non
             writer.drop_empty(key)
         return held.kept
     findings = [(one.kind.label, one.times, one.first, one.detail) for one in done.rows.findings]
-    accepted = list_accepted(work, done.answers)
     return writer.add(
-        key, Written(held, accepted, done.rows.session, done.rows.parts, findings, done.course)
+        key, Written(held, done.accepted, done.rows.session, done.rows.parts, findings, done.course)
     )
 
 
@@ -740,7 +768,7 @@ def order_session(
         )
         if row is None:
             raise InputError(f"the store has no transaction {transaction!r} of station {station!r}")
-        lock_sites(store, [row.site], False)
+        share_sites(store, [], [row.site])
         store.execute(
             "update session set own_order = :order where station = :station and transaction_id = :transaction",
             order=order,

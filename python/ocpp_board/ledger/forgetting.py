@@ -15,7 +15,7 @@ from ocpp_board.ledger.program import Program
 from ocpp_board.ledger.rows import Rows, Work, work_out
 from ocpp_board.messages.tokens import SIGNED, TOKENS, empty_line, empty_tokens
 from ocpp_board.records import Line
-from ocpp_board.store.database import Database
+from ocpp_board.store.database import Database, count_hours
 from ocpp_board.store.plan import find_session_rules
 
 # A moment after all that a store has.
@@ -47,7 +47,8 @@ where station = :station and transaction_id = :transaction_id and number = :numb
 """
 # The moment of change has who keeps the lines of a session read them again, and its pages written.
 WRITE_SESSION = """
-update session set token = :token, token_type = :token_type, signed = :signed, changed_at = :changed_at
+update session set token = :token, token_type = :token_type, signed = :signed, changed_at = :changed_at,
+    changed_hour = :changed_hour
 where station = :station and transaction_id = :transaction_id
 """
 REFUSALS = f"""
@@ -175,14 +176,15 @@ def write_sessions(
         store.execute_each(
             WRITE_LINE, [key | {"number": line.number, "line": line.text} for line in one.changed]
         )
-        own = rows.session
+        own, now = rows.session, datetime.now(timezone.utc)
         store.execute(
             WRITE_SESSION,
             **key,
             token=own.token,
             token_type=own.token_type,
             signed=own.signed,
-            changed_at=datetime.now(timezone.utc),
+            changed_at=now,
+            changed_hour=count_hours(now),
         )
         found.lines += len(one.changed)
         found.sessions += 1

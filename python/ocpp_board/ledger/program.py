@@ -124,9 +124,11 @@ class LibraryProgram:
                 continue
             status = self.call_asks(data, len(data), limit_moment(moment), *room)
             if status == EVENT:
-                found.append(Wish("event", text[: used.value].decode("ascii"), number.value))
+                found.append(
+                    Wish("event", ctypes.string_at(text, used.value).decode("ascii"), number.value)
+                )
             elif status == REPLY:
-                found.append(Wish("reply", text[: used.value].decode("utf-8")))
+                found.append(Wish("reply", ctypes.string_at(text, used.value).decode("utf-8")))
             elif status == SILENT:
                 found.append(Wish("silent"))
             else:

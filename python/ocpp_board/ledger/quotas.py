@@ -9,8 +9,8 @@ from collections.abc import Mapping, Sequence
 from datetime import datetime, timezone
 from typing import NamedTuple
 
-from ocpp_board.records import Message
-from ocpp_board.store.database import Database, Row
+from ocpp_board.records import Message, Quota
+from ocpp_board.store.database import Database
 from ocpp_board.store.lines import Key
 
 TOO_MANY_OPEN, TOO_MANY_BYTES = "TooManyOpen", "TooManyBytes"
@@ -21,30 +21,12 @@ FLOODS = frozenset((TOO_MANY_BYTES, TOO_MANY_MESSAGES, TOO_MANY_STRAYS))
 MOST_STRAYS = 50_000
 
 
-class Quota(NamedTuple):
-    """A site's quotas for each of its stations; 0: any number."""
-
-    open: int
-    bytes: int
-
-
 class Asking(NamedTuple):
     """A message that would be stored: its place in the batch, and its transaction, if it has one."""
 
     place: int
     message: Message
     key: Key | None
-
-
-def find_quotas(store: Database, sites: Sequence[str]) -> dict[str, Quota]:
-    """The quotas of those of these sites that have some."""
-    asked = "select site, most_open, most_bytes from site where (most_open > 0 or most_bytes > 0) and site"
-    if store.kind == "postgresql":
-        rows: list[Row] = store.fetch(f"{asked} = any(:sites)", sites=list(sites))
-    else:
-        some = store.fetch_each(f"{asked} = :site", [{"site": site} for site in sites])
-        rows = [row for one in some for row in one]
-    return {row.site: Quota(row.most_open, row.most_bytes) for row in rows}
 
 
 def find_refused(

@@ -12,7 +12,7 @@ from typing import NamedTuple
 from ocpp_board.energies import Flow
 from ocpp_board.errors import ProgramError, StoreError
 from ocpp_board.ledger.answers import AnswerReader, BoardPart, Figures, read_answer
-from ocpp_board.ledger.course import Course, Room
+from ocpp_board.ledger.course import NO_LINES, Block, Course
 from ocpp_board.ledger.events import Counted, History, read_conflict
 from ocpp_board.ledger.findings import Effect, Finding
 from ocpp_board.ledger.periods import SURE, Doubt, Doubts, Gaps, find_holes
@@ -111,10 +111,11 @@ class Work(NamedTuple):
 
 
 class Done(NamedTuple):
-    """The answers to the new lines of a work, and its rows after them, with what is known of its lines then; None where
-    nothing changed."""
+    """The answers to the new lines of a work, those that were accepted, and its rows after them, with what is known of
+    its lines then; None where nothing changed."""
 
     answers: list[Answer]
+    accepted: list[Line]
     rows: Rows | None
     course: Course | None = None
 
@@ -151,8 +152,10 @@ def work_out(program: Program, works: Iterable[Work]) -> Iterator[Done]:
 def read_answers(work: Work, reader: AnswerReader) -> list[Answer]:
     """The answers to a transaction's new lines; its stored ones have to be accepted. Raises StoreError."""
     for line, answer in zip(work.stored, reader.read_some(len(work.stored))):
-        wanted = f"accepted {line.number}"
-        if not answer.startswith(wanted) or answer[len(wanted) : len(wanted) + 1].strip():
+        if (
+            not answer.startswith(f"accepted {line.number} ")
+            and answer != f"accepted {line.number}"
+        ):
             where = f"line {line.number} of transaction {work.transaction} of {work.station}"
             raise StoreError(f"{where} is answered {answer[:80]!r}: the store is damaged")
     new = reader.read_some(len(work.new))
@@ -162,17 +165,25 @@ def read_answers(work: Work, reader: AnswerReader) -> list[Answer]:
 def finish_work(work: Work, answers: list[Answer], board: BoardPart, reader: AnswerReader) -> Done:
     """What became of a transaction's new lines, and its rows. The reader is before its two lists."""
     lists = reader.read_lists()
-    accepted, conflicts = list_accepted(work, answers), dict.fromkeys(work.conflicts)
+    accepted, conflicts = list_accepted(work, answers), work.conflicts
+    if len(accepted) < len(work.new):
+        conflicts = add_conflicts(work, answers)
+    if not accepted and len(conflicts) == len(work.conflicts) and not work.has_rows:
+        return Done(answers, accepted, None)
+    course, lines = work.course, accepted
+    if course is None or not course.goes_on(accepted, lists, work.rules):
+        course, lines = Course(work.site, work.rules), [*work.stored, *accepted]
+    course.take(lines, lists)
+    return Done(answers, accepted, make_rows(work, course, board, conflicts), course)
+
+
+def add_conflicts(work: Work, answers: Sequence[Answer]) -> list[str]:
+    """The lines that conflict with a transaction's events, with those that are new."""
+    conflicts = dict.fromkeys(work.conflicts)
     for line, answer in zip(work.new, answers):
         if answer.name == CONFLICT and line.text.startswith(DELIVER):
             conflicts[line.text] = None
-    if not accepted and len(conflicts) == len(work.conflicts) and not work.has_rows:
-        return Done(answers, None)
-    course = work.course
-    if course is None or not course.goes_on(accepted, lists, work.rules):
-        course, accepted = Course(work.site, work.rules), [*work.stored, *accepted]
-    course.take(accepted, lists)
-    return Done(answers, make_rows(work, course, board, list(conflicts)), course)
+    return list(conflicts)
 
 
 def list_accepted(work: Work, answers: Sequence[Answer]) -> list[Line]:
@@ -187,88 +198,94 @@ def list_accepted(work: Work, answers: Sequence[Answer]) -> list[Line]:
 # Scripts --------------------------------------------------------------------------------------------------------------
 
 
-class Measured(NamedTuple):
-    """A work with what a script has to keep for it: its rules' limits, or what its lines can have, if that is less."""
+class Piece(NamedTuple):
+    """A work with its stored lines and its new ones as a script has them."""
 
     work: Work
-    events: int
-    readings: int
-    size: int
+    stored: Block
+    new: Block
 
+    @property
+    def size(self) -> int:
+        """About how many bytes it has."""
+        return len(self.stored.text) + len(self.new.text)
 
-def measure(work: Work) -> Measured:
-    """A work with what a script has to keep for it."""
-    room = work.course.room if work.course else Room().add(work.stored)
-    events, readings, size = room.add(work.new)
-    limits = work.rules.limits
-    return Measured(
-        work, max(min(limits.events, events), 1), max(min(limits.readings, readings), 1), size
-    )
+    @property
+    def room(self) -> tuple[int, int]:
+        """The events and readings that a script keeps for it: as many as its rules have, or as its lines can have, if
+        that is less."""
+        limits = self.work.rules.limits
+        events = min(limits.events, self.stored.lines + self.new.lines)
+        return max(events, 1), max(
+            min(limits.readings, self.stored.readings + self.new.readings), 1
+        )
 
-
-def part_works(works: Iterable[Work]) -> Iterator[list[Measured]]:
-    """Works in lists that a script has room for, each with a station of its own."""
-    some, readings, size = list[Measured](), 0, 0
-    stations, kinds = set[str](), set[Kind]()
-    for one in map(measure, works):
-        station, kind = one.work.station, name_kind(one)
-        if (
-            station in stations
-            or len(some) == MOST_STATIONS
-            or some
-            and (readings + one.readings > MOST_READINGS or size + one.size > MOST_BYTES)
-            or kind not in kinds
-            and len(kinds) == MOST_SITES
-        ):
-            yield some
-            some, readings, size = [], 0, 0
-            stations, kinds = set(), set()
-        some.append(one)
-        readings, size = readings + one.readings, size + one.size
-        stations.add(station)
-        kinds.add(kind)
-    if some:
-        yield some
+    @property
+    def kind(self) -> "Kind":
+        """What its site decides of a board."""
+        rules = self.work.rules
+        return rules.period, rules.order, rules.settle
 
 
 # What a site decides of a board.
 Kind = tuple[int, str, str]
 
 
-def name_kind(one: Measured) -> Kind:
-    """What the work's site decides of a board."""
-    rules = one.work.rules
-    return rules.period, rules.order, rules.settle
+def make_piece(work: Work) -> Piece:
+    """The piece of a script that is a work's."""
+    stored = work.course.block if work.course else NO_LINES.add(work.stored)
+    return Piece(work, stored, NO_LINES.add(work.new))
 
 
-def group_by_rules(works: Iterable[Measured]) -> dict[Kind, list[Measured]]:
-    """Works by what their sites decide of a board."""
-    found = dict[Kind, list[Measured]]()
-    for one in works:
-        found.setdefault(name_kind(one), []).append(one)
+def part_works(works: Iterable[Work]) -> Iterator[list[Piece]]:
+    """Works in lists that a script has room for, each with a station of its own."""
+    some, readings, size = list[Piece](), 0, 0
+    stations, kinds = set[str](), set[Kind]()
+    for one in map(make_piece, works):
+        station, own = one.work.station, one.room[1]
+        if (
+            station in stations
+            or len(some) == MOST_STATIONS
+            or some
+            and (readings + own > MOST_READINGS or size + one.size > MOST_BYTES)
+            or one.kind not in kinds
+            and len(kinds) == MOST_SITES
+        ):
+            yield some
+            some, readings, size = [], 0, 0
+            stations, kinds = set(), set()
+        some.append(one)
+        readings, size = readings + own, size + one.size
+        stations.add(station)
+        kinds.add(one.kind)
+    if some:
+        yield some
+
+
+def group_by_rules(pieces: Iterable[Piece]) -> dict[Kind, list[Piece]]:
+    """Pieces by what their sites decide of a board."""
+    found = dict[Kind, list[Piece]]()
+    for one in pieces:
+        found.setdefault(one.kind, []).append(one)
     return found
 
 
-def write_script(works: Sequence[Measured]) -> bytes:
+def write_script(pieces: Sequence[Piece]) -> bytes:
     """A script of transactions of different stations: their lines, then the boards, then the lists."""
-    sites, lines = group_by_rules(works), list[str]()
+    sites, texts = group_by_rules(pieces), list[str]()
     for site, ((period, order, settle), some) in enumerate(sites.items()):
         for one in some:
-            lines.append(f"limits 1 {one.events} {one.readings} {2**63}")
-            lines.append(f"station s{site} {one.work.station}")
-        lines += [f"period s{site} {period}", f"order s{site} {order}", f"settle s{site} {settle}"]
-    for one in works:
-        lines += [line.text for line in one.work.stored]
-        lines += [line.text for line in one.work.new]
-    lines += [f"board s{site}" for site in range(len(sites))]
-    for one in works:
-        lines.append(f"events {one.work.station} {one.work.transaction}")
-        lines.append(f"readings {one.work.station} {one.work.transaction}")
-    script = "\n".join([*lines, ""])
-    if "\r\n" in script:
-        # The program drops one carriage return before a line feed: a message's own stays.
-        script = script.replace("\r\n", "\r\r\n")
-    data = script.encode()
+            events, readings = one.room
+            texts.append(f"limits 1 {events} {readings} {2**63}\n")
+            texts.append(f"station s{site} {one.work.station}\n")
+        texts.append(f"period s{site} {period}\norder s{site} {order}\nsettle s{site} {settle}\n")
+    for one in pieces:
+        texts += [one.stored.text, one.new.text]
+    texts += [f"board s{site}\n" for site in range(len(sites))]
+    for one in pieces:
+        name = f"{one.work.station} {one.work.transaction}"
+        texts.append(f"events {name}\nreadings {name}\n")
+    data = "".join(texts).encode()
     if len(data) > LONGEST_SCRIPT:
         raise ProgramError(f"a transaction has more than {LONGEST_SCRIPT:,} bytes of lines")
     return data
@@ -304,7 +321,7 @@ def make_session(
     first_at, last_at = spans.of_events or (None, None)
     signed = facts.list_signed()
     return Session(
-        course.count,
+        course.block.lines,
         figures.evse if figures else 0,
         total.events,
         total.voided,

@@ -5,15 +5,24 @@ from dataclasses import dataclass, field, replace
 from itertools import groupby
 from operator import attrgetter
 
-from ocpp_board.ledger.course import count_readings
+from ocpp_board.ledger.course import LEAST_READING
 from ocpp_board.limits import GREATEST_LIMITS, MOST_READINGS, MOST_STATIONS, ORDERS
 from ocpp_board.records import DELIVER, Rules
 from ocpp_board.store.database import Row
 
 # The orders that a transaction may have, and first none of its own.
 OWN_ORDERS = ("", *ORDERS)
+# Readings of one message that count, at most.
+MOST_OF_A_MESSAGE = 1_024
 # Bytes of a script: after so many another one begins.
 MOST_BYTES = 32 * 1_048_576
+
+
+def count_readings(text: str) -> int:
+    """How many readings a line has, at most."""
+    if "\\" in text:
+        return min(MOST_OF_A_MESSAGE, len(text) // LEAST_READING + 1)
+    return min(MOST_OF_A_MESSAGE, text.count('"value"'))
 
 
 @dataclass(slots=True)

@@ -294,7 +294,7 @@ class CitrineCsvForm:
         if cells == self.heads:
             return None  # Another file of the same columns begins.
         if len(cells) != len(self.heads):
-            raise Refused("a row has not as many cells as the first line", str(len(cells)))
+            raise Refused("a row has more or fewer cells than the first line", str(len(cells)))
         return CitrineForm.read_row(Members(dict(zip(self.heads, cells)), {}))
 
 

@@ -9,7 +9,7 @@ import sqlite3
 from collections import namedtuple
 from collections.abc import Callable, Iterable, Iterator, Mapping, Sequence
 from contextlib import contextmanager
-from datetime import date, datetime, timezone
+from datetime import date, datetime, timedelta, timezone
 from functools import lru_cache, wraps
 from pathlib import Path
 from typing import Any, ParamSpec, TypeVar
@@ -38,6 +38,9 @@ SOURCES = (
 )
 # How many partitions PostgreSQL's tables by station have.
 PARTITIONS = 16
+# How full PostgreSQL makes the pages of tables whose rows are written again: a row that stays on its page needs no
+# new entries in indexes.
+ROOM = {"session": 70, "part": 90, "finding": 90}
 # Seconds that a writer waits for another one.
 PATIENCE = 60
 # When a network that is cut counts as such, for this side, where the store's name says nothing of it, and for the
@@ -49,6 +52,10 @@ NETWORK = {
     "keepalives_count": 3,
     "tcp_user_timeout": 10_000,
 }
+ONCE = """
+set plan_cache_mode = force_generic_plan; set enable_hashjoin = off; set enable_mergejoin = off;
+set enable_seqscan = off
+"""
 # To compile a plan over all partitions takes far longer than to run it.
 SETTINGS = """
 set time zone 'UTC'; set jit = off; set tcp_keepalives_idle = 10; set tcp_keepalives_interval = 5;
@@ -64,6 +71,8 @@ MOMENTS = {"at", "starts", "since", "until", "received", "began", "ended"}
 DAYS = {"day", "first_settled_day"}
 FLAGS = {"complete", "measured", "numbers_missing", "on_board", "whole"}
 
+EPOCH, HOUR = datetime(1970, 1, 1, tzinfo=timezone.utc), timedelta(hours=1)
+
 Row = Any  # A named tuple of a statement's columns.
 P = ParamSpec("P")
 T = TypeVar("T")
@@ -73,6 +82,16 @@ Values = Mapping[str, Any]
 def is_moment(column: str) -> bool:
     """Whether a column has moments."""
     return column in MOMENTS or column.endswith(("_at", "_until"))
+
+
+def count_days(at: datetime) -> int:
+    """The day of a moment (UTC), in days since 1970, as `last_day` has it."""
+    return (at - EPOCH).days
+
+
+def count_hours(at: datetime) -> int:
+    """The hour of a moment, in hours since 1970, as `changed_hour` has it."""
+    return (at - EPOCH) // HOUR
 
 
 @lru_cache(65_536)
@@ -134,6 +153,9 @@ class Database:
     def close(self) -> None:
         """Closes the store."""
         raise NotImplementedError
+
+    def plan_once(self) -> None:
+        """Has statements that name keys planned once: they look each key up in an index, however many there are."""
 
     def fetch_one(self, statement: str, **values: Any) -> Row | None:
         """The first row of a statement; None where it has none."""
@@ -358,6 +380,11 @@ class PostgresDatabase(Database):
             cursor.execute(write_postgresql(statement), values)
             yield from cursor
 
+    @report_faults
+    def plan_once(self) -> None:
+        """To plan a statement over all partitions takes longer than to run it for some keys."""
+        self.connection.execute(ONCE)
+
     @contextmanager
     def transaction(self) -> Iterator[None]:
         """A database transaction."""
@@ -443,7 +470,7 @@ def make_schema(database: SqliteDatabase | PostgresDatabase) -> None:
                 for number in range(PARTITIONS):
                     database.execute(
                         f"create table {table}_{number} partition of {table} for values with "
-                        f"(modulus {PARTITIONS}, remainder {number})"
+                        f"(modulus {PARTITIONS}, remainder {number}) with (fillfactor = {ROOM.get(table, 100)})"
                     )
         database.execute(
             "insert into store (version, made_at) values (:version, :now)",

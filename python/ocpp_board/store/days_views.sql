@@ -55,6 +55,22 @@ join closing o on o.site = p.site and o.closing = p.closing - 1 and p.starts < o
 join closed_session s
     on s.station = p.station and s.transaction_id = p.transaction_id and s.closing = p.closing;
 
+-- What each closing froze: how many sessions it saw, how many of these are settled as complete and by rule, by how much
+-- it changed what is settled of periods, and how much of that are corrections.
+create view closing_sum as
+select n.site, n.closing, n.day, n.until, n.at, n.who, n.period, n.reading_order, n.settle, n.zone,
+    (select count(*) from closed_session c where c.site = n.site and c.closing = n.closing) as sessions,
+    (select count(*) from closed_session c
+        where c.site = n.site and c.closing = n.closing and c.settled = 'complete') as complete_sessions,
+    (select count(*) from closed_session c
+        where c.site = n.site and c.closing = n.closing and c.settled = 'rule') as rule_sessions,
+    (select cast(coalesce(sum(p.up - p.down - p.export_up + p.export_down), 0) as bigint) from closed_part p
+        where p.site = n.site and p.closing = n.closing) as net,
+    (select count(*) from correction r where r.site = n.site and r.closing = n.closing) as corrections,
+    (select cast(coalesce(sum(r.net), 0) as bigint) from correction r
+        where r.site = n.site and r.closing = n.closing) as corrected
+from closing n;
+
 -- A session's energy by the ledger, the declared adjustments, and both together.
 create view adjusted_session as
 select s.site, s.station, s.transaction_id, s.up - s.down as imported, s.export_up - s.export_down as exported,

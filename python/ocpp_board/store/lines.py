@@ -4,12 +4,21 @@ import json
 from collections import OrderedDict
 from collections.abc import Iterable, Iterator, Sequence
 from dataclasses import dataclass, field
-from datetime import datetime, timezone
+from datetime import datetime, timedelta, timezone
 from typing import Any, NamedTuple
 
 from ocpp_board.errors import StoreError
 from ocpp_board.records import LeftOut, Line
-from ocpp_board.store.database import Database, Row, SqliteDatabase, choose
+from ocpp_board.store.database import (
+    EPOCH,
+    Database,
+    Row,
+    SqliteDatabase,
+    choose,
+    count_days,
+    count_hours,
+    write_moment,
+)
 
 SESSION = """lines evse events voided first_number last_number complete missing gaps up down export_up export_down state
 began ended first_at last_at first_register last_register first_export_register last_export_register stopped_reason
@@ -22,6 +31,7 @@ SENT = [
     SESSION.index(name)
     for name in ("stopped_reason", "sent_id", "token", "token_type", "remote_start_id", "signed")
 ]
+LAST_AT = SESSION.index("last_at")
 PART = "starts up down export_up export_down on_board measured shared numbers_missing".split()
 FINDING = "kind times first_at detail".split()
 OF_SESSION = "station = :station and transaction_id = :transaction"
@@ -34,6 +44,11 @@ LONGEST_ORIGINS = 4_000
 
 
 KEYS = ("station", "transaction_id")
+MICROSECOND = timedelta(microseconds=1)
+# When a row of `session` was changed, as a whole number where the database has one, which costs little to read.
+CHANGED = (
+    "/*sqlite changed_at*/ /*postgresql cast(extract(epoch from changed_at) * 1000000 as bigint)*/"
+)
 # Transactions whose rows are written at once.
 WRITTEN_AT_ONCE = 1_000
 # A text that came again is counted, but for one of a place that was read before.
@@ -132,9 +147,9 @@ def fetch_keyed(
     follows the condition."""
     if not keys:
         return []
-    if store.kind == "sqlite":
+    if store.kind == "sqlite" or len(keys) == 1:
         asked = f"select {columns} from {table} where {OF_SESSION} {more}"
-        return list(store.fetch_each(asked, name_keys(keys)))
+        return [store.fetch(asked, **one) for one in name_keys(keys)]
     found: list[list[Row]] = [[] for _ in keys]
     for row in store.fetch(
         f"""select k.place, t.* from json_to_recordset(:keys) as k (place int, s text, t text) cross join lateral (
@@ -157,10 +172,14 @@ def list_stations(keys: Iterable[Key]) -> list[str]:
     return sorted({key[0] for key in keys})
 
 
-def find_session_sites(store: Database, keys: Sequence[Key]) -> dict[Key, str]:
-    """The sites of those of these transactions that are stored."""
-    found = fetch_keyed(store, "site", "session", keys)
-    return {key: rows[0].site for key, rows in zip(keys, found) if rows}
+def find_session_sites(
+    store: Database, keys: Sequence[Key], warm: "Warm | None" = None
+) -> set[str]:
+    """The sites of those of these transactions that are stored. `warm`: what this process stored last."""
+    kept: dict[Key, tuple[Kept, int]] = {} if warm is None else warm.kept
+    found = fetch_keyed(store, "site", "session", [key for key in keys if key not in kept])
+    known = {kept[key][0].site for key in keys if key in kept}
+    return known | {row.site for one in found for row in one}
 
 
 def hold_sessions(
@@ -170,37 +189,53 @@ def hold_sessions(
     stored of them. `sites`: those of the ones that are not stored; `warm`: what this process stored last.
     """
     keys = sorted(sites)
-    if store.kind == "postgresql" and keys:
-        store.execute(
-            """insert into session (station, transaction_id, site) select s, t, site
-            from json_to_recordset(:keys) as k (s text, t text, site text)
-            on conflict (station, transaction_id) do nothing""",
-            keys=json.dumps([{"s": key[0], "t": key[1], "site": sites[key]} for key in keys]),
-        )
-    lock = "for update" if store.kind == "postgresql" else ""
-    had = fetch_keyed(store, "site, lines, changed_at, own_order", "session", keys, lock)
+    had = lock_rows(store, sites, warm)
     kept = {
         key: one
         for key, rows in zip(keys, had)
-        if rows and warm and (one := warm.take(key, rows[0].lines, rows[0].changed_at))
+        if rows and warm and (one := warm.take(key, rows[0].lines, rows[0].changed))
     }
     stored = [key for key, rows in zip(keys, had) if rows and rows[0].lines and key not in kept]
     lines = dict(zip(stored, read_lines(store, stored)))
-    refusals = dict(zip(keys, read_refusals(store, keys)))
+    refusals = read_some_refusals(store, keys)
     found = dict[Key, Held]()
     for key, rows in zip(keys, had):
         site, order = (rows[0].site, rows[0].own_order) if rows else (sites[key], "")
+        refused = refusals.get(key, [])
         if key in kept:
-            found[key] = Held(site, kept[key].lines, refusals[key], kept[key], order)
+            found[key] = Held(site, kept[key].lines, refused, kept[key], order)
             continue
         own = lines.get(key, [])
         # A transaction without lines has no other rows.
-        found[key] = Held(site, own, refusals[key], None if own else Kept(), order)
+        found[key] = Held(site, own, refused, None if own else Kept(), order)
         if rows and len(own) != rows[0].lines:
             raise StoreError(
                 f"transaction {key[1]} of {key[0]} has not the lines that its row counts"
             )
     return found
+
+
+def lock_rows(store: Database, sites: dict[Key, str], warm: "Warm | None") -> list[list[Row]]:
+    """The rows of these transactions, in the order of their keys: in PostgreSQL they are there then, and held."""
+    keys, columns = (
+        sorted(sites),
+        f"site, lines, {choose(CHANGED, store.kind)} as changed, own_order",
+    )
+    if store.kind != "postgresql":
+        return fetch_keyed(store, columns, "session", keys)
+    new = [key for key in keys if warm is None or key not in warm.kept]
+    while True:
+        if new:
+            store.execute(
+                """insert into session (station, transaction_id, site) select s, t, site
+                from json_to_recordset(:keys) as k (s text, t text, site text)
+                on conflict (station, transaction_id) do nothing""",
+                keys=json.dumps([{"s": key[0], "t": key[1], "site": sites[key]} for key in new]),
+            )
+        had = fetch_keyed(store, columns, "session", keys, "for update")
+        new = [key for key, rows in zip(keys, had) if not rows]
+        if not new:
+            return had
 
 
 def read_lines(store: Database, keys: Sequence[Key]) -> Iterable[list[Line]]:
@@ -218,6 +253,18 @@ def read_refusals(store: Database, keys: Sequence[Key]) -> Iterable[list[Row]]:
     return fetch_keyed(store, columns, "refusal", keys, "and decision = ''")
 
 
+def read_some_refusals(store: Database, keys: Sequence[Key]) -> dict[Key, list[Row]]:
+    """The same of those of these transactions whose stations have some."""
+    if store.kind == "postgresql" and len(keys) > 1:
+        rows = store.fetch(
+            "select distinct station from refusal where station = any(:stations) and decision = ''",
+            stations=list_stations(keys),
+        )
+        stations = {row.station for row in rows}
+        keys = [key for key in keys if key[0] in stations]
+    return dict(zip(keys, read_refusals(store, keys)))
+
+
 # What a process stored last ------------------------------------------------------------------------------------------
 
 Values = tuple[Any, ...]  # Those of a row, in the order of its columns.
@@ -225,13 +272,14 @@ Values = tuple[Any, ...]  # Those of a row, in the order of its columns.
 
 @dataclass(slots=True)
 class Kept:
-    """The lines of a transaction, the rows of its periods and findings by the first of their columns, and what the
-    ledger knows of its lines."""
+    """The lines of a transaction, the rows of its periods and findings by the first of their columns, its site, when
+    its row was changed, as CHANGED has it, and what the ledger knows of its lines."""
 
     lines: list[Line] = field(default_factory=list)
     parts: dict[Any, Values] = field(default_factory=dict)
     findings: dict[Any, Values] = field(default_factory=dict)
-    changed_at: datetime | None = None
+    site: str = ""
+    changed: int | str | None = None
     course: Any = None
 
     def measure(self) -> int:
@@ -248,16 +296,13 @@ class Warm:
         self.most, self.size = most, 0
         self.kept = OrderedDict[Key, tuple[Kept, int]]()
 
-    def take(self, key: Key, lines: int, changed_at: datetime | None) -> Kept | None:
+    def take(self, key: Key, lines: int, changed: int | str | None) -> Kept | None:
         """Takes out what is kept of a transaction; none where something else is stored."""
         if key not in self.kept:
             return None
         kept, size = self.kept.pop(key)
         self.size -= size
-        is_stored = changed_at is not None and (len(kept.lines), kept.changed_at) == (
-            lines,
-            changed_at,
-        )
+        is_stored = changed is not None and (len(kept.lines), kept.changed) == (lines, changed)
         return kept if is_stored else None
 
     def keep(self, key: Key, kept: Kept) -> None:
@@ -271,6 +316,11 @@ class Warm:
 
 
 # Writing -------------------------------------------------------------------------------------------------------------
+
+
+def write_changed(store: Database, at: datetime) -> int | str:
+    """A moment of change as CHANGED has it."""
+    return (at - EPOCH) // MICROSECOND if store.kind == "postgresql" else write_moment(at)
 
 
 class Written(NamedTuple):
@@ -302,7 +352,8 @@ class Writer:
             [*one.held.lines, *one.accepted],
             {row[0]: row for row in one.parts},
             {row[0]: row for row in one.findings},
-            self.at,
+            one.held.site,
+            write_changed(self.store, self.at),
             one.course,
         )
 
@@ -315,11 +366,12 @@ class Writer:
         """Writes what was collected."""
         lines = [(*key, *line) for key, one in self.rows.items() for line in one.accepted]
         insert_rows(self.store, "line", LINE, lines)
+        hour = count_hours(self.at)
         sessions = [
-            (*key, one.held.site, self.at, *clean_session(one.session))
+            (*key, one.held.site, self.at, hour, find_day(one.session), *clean_session(one.session))
             for key, one in self.rows.items()
         ]
-        columns = [*KEYS, "site", "changed_at", *SESSION]
+        columns = [*KEYS, "site", "changed_at", "changed_hour", "last_day", *SESSION]
         write_rows(self.store, "session", columns, KEYS, sessions, compared=SESSION)
         unknown = sorted(key for key, one in self.rows.items() if one.held.kept is None)
         parts = {key: one.parts for key, one in self.rows.items()}
@@ -342,6 +394,12 @@ def read_by_first(
     for rows in fetch_keyed(store, ", ".join(columns), table, keys):
         values = [tuple(getattr(row, name) for name in columns) for row in rows]
         yield {one[0]: one for one in values}
+
+
+def find_day(session: Values) -> int | None:
+    """The last day of a transaction."""
+    last = session[LAST_AT]
+    return None if last is None else count_days(last)
 
 
 def clean_session(session: Values) -> Values:

@@ -1,7 +1,7 @@
 """The plan of a store: its sites with their rules, its stations, and who changed them when and why."""
 
 import json
-from collections.abc import Iterator
+from collections.abc import Iterable, Iterator, Sequence
 from dataclasses import asdict, dataclass, replace
 from datetime import datetime, timedelta, timezone
 from typing import Any
@@ -11,7 +11,7 @@ from ocpp_board.errors import InputError
 from ocpp_board.limits import FIRST_MOMENT, GREATEST_LIMITS, ORDERS, PAST_MOMENTS, PERIODS
 from ocpp_board.limits import RULES as SETTLES
 from ocpp_board.limits import is_name
-from ocpp_board.records import Limits, Rules
+from ocpp_board.records import Limits, Quota, Rules
 from ocpp_board.store.database import Database, Row
 
 RULES_COLUMNS = (
@@ -34,6 +34,36 @@ def read_rules(row: Row) -> Rules:
     limits = Limits(row.events, row.readings)
     more = (row.most_kw, row.reading_within, row.resolution)
     return Rules(row.period, row.reading_order, row.settle, limits, row.zone, *more)
+
+
+@dataclass(frozen=True, slots=True)
+class Planned:
+    """What the plan has of some stations: the site of each, the powers of those that have one of their own, and the
+    rules and quotas of these sites."""
+
+    sites: dict[str, str]
+    powers: dict[str, int]
+    rules: dict[str, Rules]
+    quotas: dict[str, Quota]
+
+
+def find_planned(store: Database, stations: Sequence[str]) -> Planned:
+    """What the plan has of those of these stations that it has."""
+    columns = ", ".join(f"i.{name}" for name in RULES_COLUMNS.split(", "))
+    asked = f"""select t.station, t.most_kw as own_kw, i.site, {columns}, i.most_open, i.most_bytes
+    from station t join site i on i.site = t.site where t.station"""
+    if store.kind == "postgresql":
+        rows = store.fetch(f"{asked} = any(:stations)", stations=list(stations))
+    else:
+        some = store.fetch_each(f"{asked} = :station", [{"station": one} for one in stations])
+        rows = [row for one in some for row in one]
+    sites = {row.site: row for row in rows}
+    return Planned(
+        {row.station: row.site for row in rows},
+        {row.station: row.own_kw for row in rows if row.own_kw},
+        {site: read_rules(row) for site, row in sites.items()},
+        {site: Quota(row.most_open, row.most_bytes) for site, row in sites.items()},
+    )
 
 
 def own_rules(rules: Rules, own_order: str, most_kw: int | None) -> Rules:
@@ -108,16 +138,31 @@ def check_name(name: str, what: str, where: str) -> None:
         )
 
 
-def lock_sites(store: Database, sites: list[str], is_alone: bool) -> None:
-    """Holds sites up to the end of the database transaction: for their lines, or alone for their plan. SQLite has one
-    writer at a time anyway."""
+def lock_sites(store: Database, sites: list[str]) -> None:
+    """Holds sites for a change of their plan, up to the end of the database transaction: nobody writes their lines.
+    SQLite has one writer at a time anyway."""
     if store.kind == "postgresql":
-        word = "" if is_alone else "_shared"
         store.execute(
-            f"""select pg_advisory_xact_lock{word}({SITE_LOCK}, hashtext(site))
+            f"""select pg_advisory_xact_lock({SITE_LOCK}, hashtext(site))
             from (select unnest(cast(:sites as text[])) as site order by 1) as sorted""",
             sites=sorted(set(sites)),
         )
+
+
+def share_sites(store: Database, stations: Sequence[str], sites: Iterable[str]) -> set[str]:
+    """Holds the sites of these stations, and these sites, for their lines, up to the end of the database transaction,
+    and gives those that it holds: their plan does not change. SQLite has one writer at a time anyway.
+    """
+    if store.kind != "postgresql":
+        return set(sites)
+    rows = store.fetch(
+        f"""select site, pg_advisory_xact_lock_shared({SITE_LOCK}, hashtext(site)) from (
+            select site from station where station = any(:stations) union select unnest(cast(:sites as text[]))
+            order by 1) as sorted""",
+        stations=list(stations),
+        sites=sorted(set(sites)),
+    )
+    return {row.site for row in rows}
 
 
 def write_site(
@@ -127,7 +172,7 @@ def write_site(
     depend on: whoever calls computes them again. Raises InputError."""
     check_name(site, "site", where)
     check_rules(rules, where)
-    lock_sites(store, [site], True)
+    lock_sites(store, [site])
     store.execute("update site set place = place where site = :site", site=site)
     had = store.fetch_one(
         f"select {RULES_COLUMNS}, first_settled_day from site where site = :site", site=site
@@ -202,7 +247,7 @@ def write_station(
     )
     if had and had.site == site and had.until is None:
         return False
-    lock_sites(store, [site, *([had.site] if had else [])], True)
+    lock_sites(store, [site, *([had.site] if had else [])])
     store.execute(
         """insert into station (station, site, since, place)
         values (:station, :site, :now, (select coalesce(max(place), 0) + 1 from station))

@@ -137,6 +137,9 @@ create table session (
     first_boundary_at timestamptz,              -- and the first of these
     received_until timestamptz,
     changed_at timestamptz,
+    -- Those two moments in days and hours since 1970: indexes have these, since each message changes the moments.
+    last_day int,
+    changed_hour int,
     energy_measured text not null default 'no', -- whether readings say its energy: yes, part, no
     first_reading_at timestamptz,
     last_reading_at timestamptz,
@@ -145,11 +148,11 @@ create table session (
     primary key (station, transaction_id)
 ) /*postgresql partition by hash (station)*/;
 create index session_site on session (site, station, evse, first_at, transaction_id);
-create index session_changed on session (changed_at);
+create index session_changed on session (changed_hour);
 create index session_time on session (station, first_at, evse);
 create index session_site_first on session (site, first_at);
-create index session_site_last on session (site, last_at, first_at);
-create index session_lacking on session (site, station) where events > 0 and not complete;
+create index session_site_last on session (site, last_day, first_at);
+create index session_lacking on session (site, station) where not complete;
 -- A settlement period of a transaction. `on_board`: a board shows it; `shared`: what it gets if energy around its
 -- unmeasured ends is shared by time, net; null where it is measured.
 create table part (

@@ -48,7 +48,8 @@ SITES = f"""
 select i.site, i.zone, i.period, i.reading_order, i.settle, {FIGURES},
     (select count(*) from station t where t.site = i.site) as stations,
     (select max(c.day) from closing c where c.site = i.site) as day,
-    (select max(s.last_at) from session s where s.site = i.site) as last_at
+    (select s.last_at from session s where s.site = i.site and s.last_day is not null
+        order by s.last_day desc, s.last_at desc limit 1) as last_at
 from site i join board_site b on b.site = i.site
 """
 SESSION = """

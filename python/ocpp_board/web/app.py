@@ -30,6 +30,7 @@ ROUTES: list[BaseRoute] = [
     Route(f"{STATION}/month/{{day}}", views.show_month),
     Route(f"{STATION}/day/{{day}}", views.show_station_day),
     Route(f"{STATION}/session/{{transaction:path}}", views.show_session),
+    Route(f"{SITE}/closing/{{number}}", views.show_closing),
     Route(f"{SITE}/{{name}}", views.show_list),
     *api.ROUTES,
 ]

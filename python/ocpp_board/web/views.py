@@ -16,6 +16,7 @@ from ocpp_board.web.desk import (
     read_fields,
 )
 from ocpp_board.web.signing import OPERATOR, READER, SignInFault
+from ocpp_board.writers.pages.closing_pages import make_closing_page
 from ocpp_board.writers.pages.context import Context, PageOptions
 from ocpp_board.writers.pages.day_book import DayBook
 from ocpp_board.writers.pages.day_pages import make_day_page, make_station_day_page
@@ -128,6 +129,19 @@ def show_list(asked: Request) -> Response:
             raise Wrong(HTTPStatus.NOT_FOUND, f"there is no list {name!r}")
         stations = read_summaries(context.reader, site.name) if name == "stations" else {}
         return show(make_list_page(context, site, name, stations, read_page(asked))[0])
+
+
+@open_view(READER)
+def show_closing(asked: Request) -> Response:
+    """A closing of a site."""
+    with asked.store.snapshot():
+        context = make_context(asked)
+        site, number = find_site(asked, context), asked.path("number")
+        known = number.isdecimal() and len(number) <= 9
+        closing = context.reader.closing(site.name, int(number)) if known else None
+        if closing is None:
+            raise Wrong(HTTPStatus.NOT_FOUND, f"site {site.name} has no closing {number!r}")
+        return show(make_closing_page(context, site, closing))
 
 
 @open_view(READER)

@@ -38,7 +38,7 @@ from ocpp_board.messages.bills import (
     token_cell,
     write_signed,
 )
-from ocpp_board.store.database import Database, Row
+from ocpp_board.store.database import Database, Row, count_days
 from ocpp_board.writers.bills import describe_measured
 from ocpp_board.writers.calendar import MOMENT, Calendar, find_calendar
 from ocpp_board.writers.files import name_file
@@ -254,10 +254,10 @@ class SiteTables:
             since, until = self.calendar.begin(self.day), self.calendar.end(last or self.day)
             # By the first two an index finds them.
             text += (
-                " and s.last_at >= :since and s.first_at < :until"
+                " and s.last_day >= :day and s.first_at < :until"
                 " and coalesce(s.began, s.first_at) >= :since and coalesce(s.began, s.first_at) < :until"
             )
-            values |= {"since": since, "until": until}
+            values |= {"since": since, "until": until, "day": count_days(since)}
         return self.store.fetch(
             f"select {columns} from session s left join station t on t.station = s.station "
             f"where s.site = :site and s.events > 0{text} {order}",

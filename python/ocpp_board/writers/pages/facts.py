@@ -1,7 +1,7 @@
 """What pages show, as the views of the store have it."""
 
 from collections.abc import Sequence
-from datetime import datetime
+from datetime import date, datetime
 from typing import NamedTuple
 
 from ocpp_board.energies import Flow
@@ -146,6 +146,46 @@ class SessionRecord(NamedTuple):
     lines: Sequence[SessionLine]
     refused: Sequence[RefusedText]
     deeds: Sequence[AnsweredDeed]
+
+
+class Closing(NamedTuple):
+    """A closing of a site: what it froze, by which rules, and how much of that are corrections."""
+
+    number: int
+    day: date
+    at: datetime
+    who: str
+    period: int
+    reading_order: str
+    settle: str
+    zone: str
+    sessions: int
+    complete: int
+    by_rule: int
+    net: int
+    corrections: int
+    corrected: int
+
+
+class Correction(NamedTuple):
+    """What a closing changed of a period of a session that one before had settled, and the lines that made it."""
+
+    station: str
+    transaction_id: str
+    start: datetime
+    net: int
+    first_line: int
+    last_line: int
+
+
+class Settled(NamedTuple):
+    """What a closing settled of a session: `complete` or by `rule`."""
+
+    station: str
+    transaction_id: str
+    settled: str
+    flow: Flow
+    lines: int
 
 
 class Lack(NamedTuple):

@@ -29,7 +29,10 @@ class Links(Protocol):
         """The page of a transaction."""
 
     def listing(self, site: str, name: str, number: int = 1) -> str:
-        """The page of a list of a site: stations, findings, lacking, refused or deeds."""
+        """The page of a list of a site: stations, findings, lacking, refused, deeds or closings."""
+
+    def closing(self, site: str, number: int) -> str:
+        """The page of a closing of a site."""
 
     def operate(self, site: str, station: str, transaction_id: str) -> str:
         """Where an operator voids events of a transaction; empty where nobody can."""
@@ -75,6 +78,10 @@ class FilePaths:
         """The page of a list of a site."""
         return f"{name_file(site)}/{number_page(name, number)}"
 
+    def closing(self, site: str, number: int) -> str:
+        """The page of a closing of a site."""
+        return f"{name_file(site)}/closing-{number}.html"
+
 
 class FileLinks:
     """The same as a page links to them that is in a folder below."""
@@ -114,6 +121,10 @@ class FileLinks:
     def listing(self, site: str, name: str, number: int = 1) -> str:
         """The page of a list of a site."""
         return self.lead(self.paths.listing(site, name, number))
+
+    def closing(self, site: str, number: int) -> str:
+        """The page of a closing of a site."""
+        return self.lead(self.paths.closing(site, number))
 
     def operate(self, site: str, station: str, transaction_id: str) -> str:
         """Nobody voids events by a file."""
@@ -155,6 +166,10 @@ class WebLinks:
     def listing(self, site: str, name: str, number: int = 1) -> str:
         """The page of a list of a site."""
         return f"{self.site(site)}/{name}" + (f"?page={number}" if number > 1 else "")
+
+    def closing(self, site: str, number: int) -> str:
+        """The page of a closing of a site."""
+        return f"{self.site(site)}/closing/{number}"
 
     def operate(self, site: str, station: str, transaction_id: str) -> str:
         """Where an operator voids events of a transaction."""

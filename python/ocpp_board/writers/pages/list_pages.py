@@ -1,5 +1,5 @@
 """The lists of a site, which go on on further pages: stations, findings, sessions that lack messages, refused messages,
-what operators did."""
+what operators did, closings."""
 
 from collections.abc import Callable, Mapping, Sequence
 from datetime import datetime
@@ -7,6 +7,7 @@ from typing import NamedTuple
 
 from markupsafe import Markup
 
+from ocpp_board.energies import kwh
 from ocpp_board.writers.calendar import Calendar
 from ocpp_board.writers.pages.cells import (
     MARK,
@@ -22,6 +23,7 @@ from ocpp_board.writers.pages.cells import (
 from ocpp_board.writers.pages.context import Context
 from ocpp_board.writers.pages.facts import (
     AnsweredDeed,
+    Closing,
     Found,
     RefusedText,
     SessionFacts,
@@ -51,6 +53,16 @@ REFUSED = make_columns(
     " What and what to do",
 )
 DEEDS = make_columns("When", " Who", " What", " Station", " Transaction", " Why", " Answer")
+CLOSINGS = make_columns(
+    "Closing",
+    " Up to the end of",
+    " When",
+    " Who",
+    "Sessions",
+    "Net, kWh",
+    "Corrections",
+    "Corrected, kWh",
+)
 
 
 class Listing(NamedTuple):
@@ -172,6 +184,27 @@ def make_deed_row(context: Context, site: Site, one: AnsweredDeed) -> TableRow:
     return TableRow(cells, "" if known else MARK)
 
 
+def list_closings(context: Context, site: Site, _stations: Stations, first: int) -> Listing:
+    """Lists the closings of a site, the latest first."""
+    closings = context.reader.closings(site.name, LIST_ROWS + 1, first)
+    return Listing(CLOSINGS, *split([make_closing_row(context, site, one) for one in closings]))
+
+
+def make_closing_row(context: Context, site: Site, one: Closing) -> TableRow:
+    """Makes the row of a closing."""
+    cells = [
+        link(context.links.closing(site.name, one.number), f"Closing {one.number:,}"),
+        wrap_time(str(one.day)),
+        write_moment(context.calendar(site), one.at),
+        one.who,
+        f"{one.sessions:,}",
+        kwh(one.net),
+        f"{one.corrections:,}",
+        kwh(one.corrected) if one.corrections else UNKNOWN,
+    ]
+    return TableRow(cells, MARK if one.corrections else "")
+
+
 class ListKind(NamedTuple):
     """A list of a site: its title, what its page says of it, what it says where there is nothing, and what reads it."""
 
@@ -200,6 +233,12 @@ LISTS = {
     ),
     "deeds": ListKind(
         "What operators did", "The latest first.", "Operators did nothing.", list_deeds
+    ),
+    "closings": ListKind(
+        "Closings",
+        "What each closing froze, the latest first; corrections are what it changed of what one before had settled.",
+        "No day is closed.",
+        list_closings,
     ),
 }
 

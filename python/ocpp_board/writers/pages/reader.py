@@ -10,9 +10,11 @@ from string import ascii_lowercase
 from typing import Any
 
 from ocpp_board.energies import Flow
-from ocpp_board.store.database import Database
+from ocpp_board.store.database import Database, count_days
 from ocpp_board.writers.pages.facts import (
     AnsweredDeed,
+    Closing,
+    Correction,
     Found,
     Lack,
     Period,
@@ -20,6 +22,7 @@ from ocpp_board.writers.pages.facts import (
     SessionFacts,
     SessionLine,
     SessionRecord,
+    Settled,
     Site,
     Totals,
 )
@@ -38,6 +41,10 @@ SESSION = (
 )
 REFUSED = "station, transaction_id, sent_number, cause, what, advice, times, first_at, last_at"
 DEED = "station, transaction_id, number, word, who, why, at, outcome, name"
+CLOSING = (
+    "closing, day, at, who, period, reading_order, settle, zone, sessions, complete_sessions, rule_sessions, net, "
+    "corrections, corrected"
+)
 LINE, LINE_COLUMNS = "number, received, line, who, why, origin", 6
 # Lines and refusals of a transaction that are read.
 MOST_LINES, MOST_REFUSED = 600, 200
@@ -242,9 +249,8 @@ class Reader:
 
     def last_moment(self, site: str, station: str | None = None) -> datetime | None:
         """The last moment of the sessions of a site or of a station."""
-        rows = self.read_of(
-            "select max(last_at) as last_at from session where site = :site", site, station, ""
-        )
+        sql = "select last_at from session where site = :site and last_day is not null"
+        rows = self.read_of(sql, site, station, " order by last_day desc, last_at desc limit 1")
         return rows[0][0] if rows else None
 
     # Sessions ---------------------------------------------------------------------------------------------------------
@@ -260,10 +266,12 @@ class Reader:
     ) -> list[SessionFacts]:
         """The sessions that ran between two moments, by their beginnings."""
         sql = (
-            f"select {SESSION} from session where site = :site and last_at >= :begin "
-            "and last_at < :latest and first_at < :end"
+            f"select {SESSION} from session where site = :site and last_day >= :first and last_day <= :last "
+            "and last_at >= :begin and last_at < :latest and first_at < :end"
         )
-        values = {"begin": begin, "end": end, "latest": end + LONGEST}
+        latest = end + LONGEST
+        values: dict[str, Any] = {"begin": begin, "end": end, "latest": latest}
+        values |= {"first": count_days(begin), "last": count_days(latest)}
         end_of = " order by first_at, station, transaction_id"
         rows = self.read_of(sql, site, station, end_of, **values)
         return [make_session(row) for row in rows]
@@ -406,9 +414,10 @@ class Reader:
             "select count(*) as transactions, sum(case when complete then 1 else 0 end) as completed, "
             "sum(events) as events, sum(voided) as voided, sum(missing) as missing, sum(up) as up, "
             "sum(down) as down, sum(export_up) as export_up, sum(export_down) as export_down "
-            "from session where site = :site and last_at > :since and events > 0",
+            "from session where site = :site and last_day >= :day and last_at > :since and events > 0",
             site=site,
             since=since,
+            day=count_days(since),
         )
         return make_totals(rows[0])
 
@@ -437,6 +446,44 @@ class Reader:
             tx=transaction_id,
         )
         return int(rows[0][0])
+
+    # Closings ---------------------------------------------------------------------------------------------------------
+
+    def closings(self, site: str, count: int, skipped: int = 0) -> list[Closing]:
+        """The closings of a site, the latest first."""
+        sql = f"select {CLOSING} from closing_sum where site = :site order by closing desc limit :count offset :skipped"
+        rows = self.store.fetch(sql, site=site, count=count, skipped=skipped)
+        return [Closing(*row) for row in rows]
+
+    def closing(self, site: str, number: int) -> Closing | None:
+        """A closing of a site; None where there is no such one."""
+        sql = f"select {CLOSING} from closing_sum where site = :site and closing = :number"
+        rows = self.store.fetch(sql, site=site, number=number)
+        return Closing(*rows[0]) if rows else None
+
+    def last_closings(self) -> dict[str, int]:
+        """The number of each site's last closing."""
+        rows = self.store.fetch("select site, max(closing) as closing from closing group by site")
+        return {row[0]: int(row[1]) for row in rows}
+
+    def corrections(self, site: str, number: int, count: int) -> list[Correction]:
+        """What a closing changed of what one before had settled."""
+        sql = (
+            "select station, transaction_id, starts, net, first_line, last_line from correction "
+            "where site = :site and closing = :number order by station, transaction_id, starts limit :count"
+        )
+        rows = self.store.fetch(sql, site=site, number=number, count=count)
+        return [Correction(*row) for row in rows]
+
+    def settled_sessions(self, site: str, number: int, count: int) -> list[Settled]:
+        """The sessions that a closing settled."""
+        sql = (
+            f"select station, transaction_id, settled, {FLOWS}, lines from closed_session "
+            "where site = :site and closing = :number and settled is not null "
+            "order by station, transaction_id limit :count"
+        )
+        rows = self.store.fetch(sql, site=site, number=number, count=count)
+        return [Settled(row[0], row[1], row[2], make_flow(row, 3), row[7]) for row in rows]
 
     def count_strays(self) -> int:
         """How many messages came of stations that no site has."""

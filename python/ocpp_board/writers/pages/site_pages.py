@@ -176,6 +176,7 @@ def list_listings(context: Context, site: Site) -> list[Markup]:
         "lacking": "Sessions that lack messages",
         "refused": "Refused messages",
         "deeds": "What operators did",
+        "closings": "Closings",
     }
     links = context.links
     return [link(links.listing(site.name, name), text) for name, text in names.items()]

@@ -3,7 +3,8 @@
     index.html                              all sites
     SITE/index.html                         a site
     SITE/YYYY-MM.html, SITE/YYYY-MM-DD.html a month, a day
-    SITE/stations.html, findings.html, lacking.html, refused.html, deeds.html
+    SITE/stations.html, findings.html, lacking.html, refused.html, deeds.html, closings.html
+    SITE/closing-NUMBER.html                a closing
     SITE/STATION/index.html                 a station, and its months and days as a site's
     SITE/STATION/session-ID.html            a transaction
 
@@ -24,6 +25,7 @@ from markupsafe import Markup
 from ocpp_board.store.database import Database, open_again
 from ocpp_board.writers.calendar import Calendar, find_calendar
 from ocpp_board.writers.copies import share_work
+from ocpp_board.writers.pages.closing_pages import make_closing_page
 from ocpp_board.writers.pages.context import Context, PageOptions
 from ocpp_board.writers.pages.day_book import DayBook
 from ocpp_board.writers.pages.day_pages import MOST_STATIONS, make_day_page, make_station_day_page
@@ -49,7 +51,7 @@ PATHS = FilePaths()
 KEPT_SESSIONS, MOST_SESSION_DAYS = 20_000, 62
 # The names of pages of a site's folder.
 OURS = re.compile(
-    r"(index|stations|findings|lacking|refused|deeds|session-.*|\d{4}-\d\d(-\d\d)?)(\.\d+)?\.html"
+    r"(index|stations|findings|lacking|refused|deeds|closings|closing-\d+|session-.*|\d{4}-\d\d(-\d\d)?)(\.\d+)?\.html"
 )
 
 # A station and a transaction of it, or None where only what was refused of the station changed.
@@ -76,6 +78,8 @@ class PageWriter:
         self.spans = OrderedDict[tuple[str, str], tuple[datetime, datetime]]()
         # By station and transaction, how much operators did there.
         self.deeds = dict[tuple[str, str], int]()
+        # By site, the last closing that has a page.
+        self.closings = dict[str, int]()
         self.written = find_now(options)
         self.count = 0
 
@@ -110,7 +114,7 @@ class PageWriter:
         self.count, begun = 0, time.time()
         self.written = find_now(self.options)
         self.out.mkdir(parents=True, exist_ok=True)
-        sites = self.reader.sites()
+        sites, self.closings = self.reader.sites(), self.reader.last_closings()
         parts = list[Share]()
         for site in sites:
             names = self.summaries.site(site.name)
@@ -142,6 +146,7 @@ class PageWriter:
             self.write_site(site)
             for name in LISTS:
                 self.write_list(site, name)
+            self.write_closings(site, 1, self.reader.last_closings().get(site.name, 0))
         else:
             self.write_station_page(site, station)
             self.write_all_sessions(site, station)
@@ -214,6 +219,26 @@ class PageWriter:
             if not is_rest:
                 return
         (self.out / PATHS.listing(site.name, name, number)).unlink(missing_ok=True)
+
+    def write_closings(self, site: Site, first: int, last: int) -> None:
+        """Writes the pages of closings of a site."""
+        for number in range(first, last + 1):
+            closing = self.reader.closing(site.name, number)
+            if closing is not None:
+                path = PATHS.closing(site.name, number)
+                self.put(path, make_closing_page(self.open_context(path), site, closing))
+
+    def write_new_closings(self) -> int:
+        """Writes the pages of closings that came since they were written, and gives how many. Raises OSError."""
+        self.count, self.written = 0, find_now(self.options)
+        before, self.closings = self.closings, self.reader.last_closings()
+        for site in self.reader.sites() if before != self.closings else ():
+            had, has = before.get(site.name, 0), self.closings.get(site.name, 0)
+            if had < has:
+                # The one before leads to the first of them.
+                self.write_closings(site, max(had, 1), has)
+                self.write_list(site, "closings")
+        return self.count
 
     def write_session(
         self,
