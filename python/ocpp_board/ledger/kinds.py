@@ -149,8 +149,9 @@ class Kind(Enum):
     )
     NO_READING = (
         "no counted reading",
-        "The session is complete and has no reading of energy, so it shows 0 kWh. Look in the log for MeterValues of "
-        "its time, or read the meter, and declare its energy by `adjust credit`.",
+        "The session is complete and has no reading of energy, so it shows 0 kWh. Declare its energy by `adjust "
+        "estimate --register meter-values` where MeterValues of its EVSE are around it (`estimates` lists them), else "
+        "by `adjust credit`, as the log or the meter says.",
         Effect.LACKS,
         False,
     )

@@ -114,20 +114,21 @@ def part_scripts(
 
 def join_scripts(rows: Iterable[Row], order: str) -> Iterator[tuple[Script, int]]:
     """Scripts of a site's transactions, each with how many lines it has. Each row has all lines of a transaction as one
-    text, and how many they are."""
+    text."""
     script, count = Script(order), 0
     for row in rows:
+        if not row.text:
+            continue
         # The program drops one carriage return before a line feed: a message's own stays.
         text = f"{row.text}\n".replace("\r\n", "\r\r\n")[:-1]
+        lines, readings = text.count("\n") + 1, text.count('"value"')
         if "\\" in text:
             readings = sum(map(count_readings, text.split("\n")))
-        else:
-            readings = text.count('"value"')
-        if not script.takes(row.station, row.lines, readings, len(text)):
+        if not script.takes(row.station, lines, readings, len(text)):
             yield script, count
             script, count = Script(order), 0
-        script.add(row.station, [text], row.lines, readings)
-        count += row.lines
+        script.add(row.station, [text], lines, readings)
+        count += lines
     if script.lines:
         yield script, count
 

@@ -24,14 +24,13 @@ Item = TypeVar("Item")
 AT_ONCE = 8
 # All lines of a transaction as one text. SQLite joins them in the order in which they come.
 SESSIONS = """
-select station, transaction_id, count(*) as lines,
-    /*sqlite group_concat(line, char(10))*/ /*postgresql string_agg(line, chr(10) order by number)*/ as text
-from (
-    select l.station, l.transaction_id, l.number, l.line from session s
-    join line l on l.station = s.station and l.transaction_id = s.transaction_id
-    where s.site = :site and s.own_order = :order order by l.station, l.transaction_id, l.number
-) as sorted
-group by station, transaction_id order by station, transaction_id
+select s.station, (
+    select /*sqlite group_concat(line, char(10))*/ /*postgresql string_agg(line, chr(10) order by number)*/
+    from (
+        select l.number, l.line from line l where l.station = s.station and l.transaction_id = s.transaction_id
+        order by l.number
+    ) as sorted
+) as text from session s where s.site = :site and s.own_order = :order order by s.station
 """
 COUNTS = ("events", "voided", "transactions", "complete_transactions", "missing")
 FLOW = Flow._fields
