@@ -319,6 +319,7 @@ def make_session(
     history, events, spans, facts = course.history, course.events, course.spans, course.facts
     holes = list(find_holes(events, lost))
     first_at, last_at = spans.of_events or (None, None)
+    first_read, last_read = spans.of_readings or (None, None)
     signed = facts.list_signed()
     return Session(
         course.block.lines,
@@ -350,7 +351,8 @@ def make_session(
         to_moment(spans.first_boundary),
         history.received_until,
         course.doubts.name_measured(spans.of_readings),
-        *map(to_moment, spans.of_readings or (None, None)),
+        to_moment(first_read),
+        to_moment(last_read),
         round(course.doubts.peak * 1_000),
     )
 
