@@ -57,13 +57,13 @@ def test_pages_of_closings(store: Database, tmp_path: Path) -> None:
     # When, who, and what it froze.
     assert "<time>2026-03-01</time>, closed at <time>2026-03-02 13:00:00</time> by jo." in first
     assert "It changed nothing that was settled before." in first
-    assert first.count('href="A/session-t1.html"') == 1 and 'href="B/session-t2.html"' in first
+    assert first.count('/A/session-t1.html"') == 1 and '/B/session-t2.html"' in first
     # What it corrected, by how much and why; texts are escaped.
     assert "by ann &lt;a&gt;." in second
     assert second.count("5: void of event 3 at 2026-03-02T08:00:00Z by jo: it was wrong") == (
         figures[1].corrections
     )
-    assert kwh(figures[1].corrected) in second and 'href="B/session-t3.html"' in second
+    assert kwh(figures[1].corrected) in second and '/B/session-t3.html"' in second
     net = sum(row.net for row in store.fetch("select net from settled_period"))
     assert sum(row.net for row in figures) == net
 

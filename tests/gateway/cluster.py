@@ -17,6 +17,8 @@ from typing import Self
 
 TOP = Path(__file__).resolve().parent.parent.parent
 BIN = Path("/usr/lib/postgresql/15/bin")
+# A file system in memory, and the bytes that it has to have free.
+MEMORY, ROOM = Path("/dev/shm"), 4 << 30
 # Seconds for what comes to be so, on a machine with much else to do.
 PATIENCE = 60.0
 
@@ -28,16 +30,19 @@ def find_port() -> int:
         return int(one.getsockname()[1])
 
 
-def make_folder(name: str) -> Path:
-    """A folder that goes with whoever made it."""
-    return Path(tempfile.mkdtemp(prefix=f"ocpp_board_{name}_"))
+def make_folder(name: str, is_durable: bool = True) -> Path:
+    """A folder for a server's files: on a disk, or in memory where what is committed needn't be on one. A database of a
+    store has a thousand files, and a busy disk takes minutes to remove those of many tests."""
+    is_roomy = MEMORY.is_dir() and shutil.disk_usage(MEMORY).free > ROOM
+    place = None if is_durable or not is_roomy else MEMORY
+    return Path(tempfile.mkdtemp(prefix=f"ocpp_board_{name}_", dir=place))
 
 
 class Cluster:
     """A server of PostgreSQL in a folder of its own, run by a user that is not root."""
 
     def __init__(self, folder: Path | None = None, is_durable: bool = True) -> None:
-        self.folder = folder or make_folder("postgres")
+        self.folder = folder or make_folder("postgres", is_durable)
         self.port, self.is_durable = find_port(), is_durable
         self.process: subprocess.Popen[bytes] | None = None
         self.user = pwd.getpwnam("postgres") if os.getuid() == 0 else pwd.getpwuid(os.getuid())
@@ -74,6 +79,8 @@ class Cluster:
             "synchronous_commit": durable,
             "full_page_writes": durable,
             "shared_buffers": "256MB",
+            # After a kill it else syncs each file by itself, which takes up to a quarter of a minute on a busy disk.
+            "recovery_init_sync_method": "syncfs",
         } | settings
         options = [word for key, value in words.items() for word in ("-c", f"{key}={value}")]
         with open(self.folder / "log", "ab") as log:
@@ -121,7 +128,7 @@ class Cluster:
 
     def stop(self) -> None:
         """Ends it."""
-        if self.process and self.process.poll() is None:
+        if self.process and self.is_running:
             self.process.send_signal(signal.SIGINT)
             try:
                 self.process.wait(20)
@@ -130,7 +137,8 @@ class Cluster:
 
     def remove(self) -> None:
         """Ends it, and removes its files."""
-        self.stop()
+        if self.is_running:
+            self.kill()  # To end it in order takes long on a busy disk, and serves nobody.
         shutil.rmtree(self.folder, ignore_errors=True)
 
     def name(self, database: str, user: str = "owner", port: int | None = None) -> str:

@@ -151,6 +151,8 @@ class Station(asyncio.Protocol):
         self.pause = plan.stations / plan.rate if plan.rate else 0.0
         # When the message that waits for its reply was sent first and last; 0 where none does.
         self.first = self.sent = self.due = 0.0
+        # What sends the next message once it is due.
+        self.timer: asyncio.TimerHandle | None = None
         self.transport: asyncio.Transport | None = None
         self.buffer = bytearray()
         self.is_in = False
@@ -237,6 +239,8 @@ class Station(asyncio.Protocol):
     def begin(self) -> None:
         """Sends the first message over a connection."""
         loop = asyncio.get_running_loop()
+        if self.timer:
+            self.timer.cancel()
         if self.first:
             self.load.seen.again += 1
             self.send()
@@ -256,7 +260,7 @@ class Station(asyncio.Protocol):
         if self.pause:
             self.due = max(self.due + self.pause, now - 60) if self.due else now
             if self.due > now:
-                asyncio.get_running_loop().call_later(self.due - now, self.send)
+                self.timer = asyncio.get_running_loop().call_later(self.due - now, self.send)
                 return
         self.send()
 

@@ -2,16 +2,19 @@
 
     tests/one gateway.soak --minutes 60 --stations 300 --rate 50
 
-Two gateways and a PostgreSQL of its own. Each few seconds one thing fails: a gateway is killed, a settling process, the
-database, a backend of it; or the network to the database is cut. Strangers try passwords and send rubbish. The status
-is 1 where an event that was answered is not stored, a reply was not that of an event that is taken, or a board is not
-that of whole scripts. A message is untouched if it was neither sent nor answered within some seconds after a fault.
+Two gateways and a PostgreSQL of its own. Each few seconds one thing fails: a gateway is killed, or stopped for a while
+with its processes, a settling process is killed, the database, a backend of it; or the network to the database is cut.
+Strangers try passwords and send rubbish. The status is 1 where an event that was answered is not stored, a reply was
+not that of an event that is taken, a board is not that of whole scripts, a message had no reply for a minute, or one in
+100 of the untouched messages waited for more than a second. A message is untouched if it was neither sent nor answered
+within some seconds after a fault.
 """
 
 import argparse
 import asyncio
 import os
 import random
+import signal
 import socket
 import sys
 import time
@@ -20,7 +23,14 @@ from collections import Counter
 from ocpp_board.ledger.verify import verify
 from ocpp_board.store.database import open_store
 from tests.gateway.client import find_status
-from tests.gateway.cluster import Cluster, GatewayPart, count_seconds, keep_cluster, list_children
+from tests.gateway.cluster import (
+    Cluster,
+    GatewayPart,
+    count_seconds,
+    keep_cluster,
+    kill_all,
+    list_children,
+)
 from tests.gateway.conftest import fill_store
 from tests.gateway.load import Load, Plan, Seen
 from tests.gateway.proxy import Proxy
@@ -47,7 +57,7 @@ class Scene:
 
     def fail(self) -> None:
         """One thing fails."""
-        kind = random.choice(["gateway", "settler", "database", "backend", "network"])
+        kind = random.choice(["gateway", "stopped", "settler", "database", "backend", "network"])
         self.counts[kind] += 1
         number = random.randrange(2)
         self.moments.append(time.monotonic())
@@ -55,12 +65,13 @@ class Scene:
             self.gateways[number].kill()
             time.sleep(random.random() * 2)
             self.gateways[number] = GatewayPart(self.stores[number], "--port", self.ports[number])
+        elif kind == "stopped":
+            pids = [self.gateways[number].pid, *list_children(self.gateways[number].pid)]
+            kill_all(pids, signal.SIGSTOP)
+            time.sleep(random.random() * 3)
+            kill_all(pids, signal.SIGCONT)
         elif kind == "settler":
-            for pid in list_children(self.gateways[number].pid)[:1]:
-                try:
-                    os.kill(pid, 9)
-                except ProcessLookupError:
-                    pass
+            kill_all(list_children(self.gateways[number].pid)[:1])
         elif kind == "database":
             self.cluster.kill()
             time.sleep(random.random() * 2)
@@ -144,7 +155,8 @@ class Scene:
         print(
             f"{row.n} lines; {verified.figures} figures compared: {verified.difference or 'all right'}"
         )
-        is_right = not verified.difference and not seen.odd
+        is_right = not verified.difference and not seen.odd and not seen.late
+        is_right &= part.wait(0.99) <= 1_000
         is_right &= len(seen.waits) <= row.n <= len(seen.waits) + self.words.stations
         return 0 if is_right else 1
 

@@ -12,7 +12,7 @@ import pytest
 import ocpp_board.store
 from ocpp_board.ledger.engine import settle
 from ocpp_board.records import Deed, Message
-from ocpp_board.store.database import open_store
+from ocpp_board.store.database import PARTITIONS, open_store
 from ocpp_board.store.plan import Author, write_station
 from ocpp_board.store.stations import set_password
 from tests.gateway.client import ask, connect_station, make_event, make_reply
@@ -166,6 +166,6 @@ def test_what_a_role_must_not_do(store_name: str, role: str, statement: str) -> 
 def test_a_partition_is_no_way_around(store_name: str) -> None:
     """A gateway can't write a line's partition by its own name."""
     with psycopg.connect(name_as(store_name, "gateway"), autocommit=True) as connection:
-        for number in range(16):
+        for number in range(PARTITIONS):
             with pytest.raises(psycopg.errors.InsufficientPrivilege):
                 connection.execute(f"update line_{number} set line = 'x'")

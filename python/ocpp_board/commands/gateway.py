@@ -67,7 +67,7 @@ def add_words(parser: argparse.ArgumentParser) -> None:
         "--lanes",
         type=read_lanes,
         default=2,
-        help="how many batches are settled at once, each by a process (default: 2; SQLite takes one after the other)",
+        help="how many batches are stored at once, each by a process (default: 2; SQLite takes one after the other)",
     )
     parser.add_argument(
         "--proxy",

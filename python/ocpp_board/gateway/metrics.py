@@ -98,7 +98,7 @@ class Figures:
         yield often
         paced = "How often a station had to wait because it sent too much."
         yield counter("paced", paced, gateway.counts["paced"])
-        yield gauge("lanes", "Batches that may be settled at once.", len(lanes.lanes))
+        yield gauge("lanes", "Batches that may be stored at once.", len(lanes.lanes))
         strays = "Messages of stations that no site has."
         yield gauge("store_strays", strays, gateway.figures.strays)
         figures = gateway.figures
@@ -112,7 +112,7 @@ class Figures:
         yield counter("batches", "Batches that were settled or tried.", counts["batches"])
         failed = "Batches that the store did not take, and that were tried again."
         yield counter("batches_failed", failed, counts["batches_failed"])
-        yield counter("failed", "Messages that could not be settled.", counts["failed"])
+        yield counter("failed", "Messages that could not be stored.", counts["failed"])
         given_up = "Messages without a reply in time; their connections were closed."
         yield counter("given_up", given_up, counts["given_up"])
         seconds = "Seconds of a processor of the settling processes."

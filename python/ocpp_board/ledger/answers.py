@@ -1,6 +1,6 @@
 """The one reader of what the proved program writes: answers to lines, boards, and the lists of transactions."""
 
-from collections.abc import Iterator, Sequence
+from collections.abc import Iterable, Iterator, Sequence
 from dataclasses import dataclass, field
 from datetime import datetime, timezone
 from functools import lru_cache
@@ -14,8 +14,6 @@ from ocpp_board.records import Answer
 
 # How many moments have their values kept, since many lines have the same.
 KEPT = 65_536
-# What the lines of readings begin with, and whether they are of the export register.
-REGISTERS = {"import": False, "export": True}
 
 
 class Wish(NamedTuple):
@@ -37,12 +35,8 @@ class Listed(NamedTuple):
     is_live: bool
 
 
-class Placed(NamedTuple):
-    """A reading with the number of its event, and its place among that event's readings of this register."""
-
-    number: int
-    place: int
-    reading: Reading
+# A reading with the number of its event, and its place among that event's readings of this register.
+Placed = tuple[int, int, Reading]
 
 
 class Total(NamedTuple):
@@ -91,7 +85,7 @@ class Board:
 
 class Lists(NamedTuple):
     """The lines of a transaction's lists: of its events by their numbers, voided ones included, and of the readings of
-    the import and of the export register."""
+    the import and of the export register, each with its parts of periods behind it."""
 
     events: list[str]
     imported: list[str]
@@ -148,11 +142,16 @@ def read_listed(line: str) -> Listed:
     return Listed(int(number), kind, read_seconds(at), int(evse[5:]), state == "live")
 
 
-def read_placed(line: str) -> Placed:
-    """A line of a list of readings that has one."""
-    word, place, at, level, *_ = line.split(" ", 4)
-    number, _, rank = place.partition(".")
-    return Placed(int(number), int(rank), Reading(read_seconds(at), int(level), REGISTERS[word]))
+def read_placed(lines: Iterable[str], is_export: bool) -> list[Placed]:
+    """The readings of a register that these lines of a list have."""
+    found = list[Placed]()
+    for line in lines:
+        if not line.startswith("part "):
+            _, place, at, level, *_ = line.split(" ", 4)
+            number, _, rank = place.partition(".")
+            reading = Reading(read_seconds(at), int(level), is_export)
+            found.append((int(number), int(rank), reading))
+    return found
 
 
 @lru_cache(KEPT)
@@ -168,6 +167,8 @@ class AnswerReader:
     def __init__(self, text: bytes) -> None:
         self.lines = text.decode("utf-8").split("\n")
         self.at = 0
+        # Whether some list has readings of the export register.
+        self.has_exports = b"\nexport " in text
 
     def read(self) -> str:
         """The next line. Raises ProgramError where there is none."""
@@ -269,7 +270,8 @@ class AnswerReader:
     def read_lists(self) -> Lists:
         """The next list of events and the next list of readings; empty ones of an unknown transaction."""
         events = list(self.read_list("events "))[1:]
-        # What is of no register is a part of a period.
-        readings = list(self.read_list("readings "))
-        imported = [line for line in readings if line.startswith("import ")]
-        return Lists(events, imported, [line for line in readings if line.startswith("export ")])
+        readings = list(self.read_list("readings "))[1:]
+        if not self.has_exports:
+            return Lists(events, readings, [])
+        first = next((n for n, line in enumerate(readings) if line.startswith("export ")), None)
+        return Lists(events, readings[:first], [] if first is None else readings[first:])

@@ -12,6 +12,8 @@ from ocpp_board.messages.bills import NOTHING, Details, Signed
 from ocpp_board.messages.transactions import Event
 from ocpp_board.records import DELIVER, Line, Rules
 
+# Bytes that are known of a line beside its text, about.
+BYTES_OF_A_LINE = 1_500
 # The least bytes of a reading.
 LEAST_READING = 11
 
@@ -121,6 +123,10 @@ class Course:
         )
         by_sequence = None if rules.order == "moment" else name_order_option(site)
         self.doubts = Doubts(by_sequence, rules)
+
+    def measure(self) -> int:
+        """About how many bytes this and the lines take."""
+        return 2 * len(self.block.text) + BYTES_OF_A_LINE * self.block.lines + 1_000
 
     def goes_on(self, lines: Sequence[Line], lists: Lists, rules: Rules) -> bool:
         """Whether further lines leave what is known as it is, by these lists of the program."""

@@ -568,8 +568,10 @@ def write_rows(writer: Writer, work: Work, held: Held, done: Done) -> Kept | Non
             writer.drop_empty(key)
         return held.kept
     findings = [(one.kind.label, one.times, one.first, one.detail) for one in done.rows.findings]
+    session, parts, _ = done.rows
+    size = done.course.measure() if done.course else 0
     return writer.add(
-        key, Written(held, done.accepted, done.rows.session, done.rows.parts, findings, done.course)
+        key, Written(held, done.accepted, session, parts, findings, done.course, size)
     )
 
 

@@ -42,7 +42,7 @@ class Kind(Enum):
     UNIT = (
         "value in another unit",
         "The register rose by a thousandth of what the measured power gives, or by a thousand times as much, or a "
-        "member `unit` stands beside a value, where OCPP 2.0.1 has none: the value is in another unit than the "
+        "member `unit` is beside a value, where OCPP 2.0.1 has none: the value is in another unit than the "
         "message says. Take the log with `--mend SITE=unit`, correct the readings by `operate correct`, or declare "
         "the difference by `adjust credit`.",
         Effect.WRONG,

@@ -27,6 +27,8 @@ MOST_BYTES = 8 * 1_048_576
 # Moments that have their values kept, since many periods begin at the same.
 KEPT_MOMENTS = 65_536
 CONFLICT, NO_FLOW = "ConflictingEvent", Flow()
+# What the answers to accepted messages begin with, as many as were needed.
+MARKS: list[str] = []
 
 
 class Session(NamedTuple):
@@ -151,15 +153,22 @@ def work_out(program: Program, works: Iterable[Work]) -> Iterator[Done]:
 
 def read_answers(work: Work, reader: AnswerReader) -> list[Answer]:
     """The answers to a transaction's new lines; its stored ones have to be accepted. Raises StoreError."""
-    for line, answer in zip(work.stored, reader.read_some(len(work.stored))):
-        if (
-            not answer.startswith(f"accepted {line.number} ")
-            and answer != f"accepted {line.number}"
-        ):
-            where = f"line {line.number} of transaction {work.transaction} of {work.station}"
-            raise StoreError(f"{where} is answered {answer[:80]!r}: the store is damaged")
+    stored = reader.read_some(len(work.stored))
+    are_whole = not stored or work.stored[-1].number == len(stored)
+    if not are_whole or not all(map(str.startswith, stored, write_marks(len(stored)))):
+        for line, answer in zip(work.stored, stored):
+            mark = f"accepted {line.number}"
+            if answer != mark and not answer.startswith(f"{mark} "):
+                where = f"line {line.number} of transaction {work.transaction} of {work.station}"
+                raise StoreError(f"{where} is answered {answer[:80]!r}: the store is damaged")
     new = reader.read_some(len(work.new))
     return [read_answer(answer, work.transaction) for answer in new]
+
+
+def write_marks(count: int) -> list[str]:
+    """What the answers to so many messages begin with at least that are accepted one after the other."""
+    MARKS.extend(f"accepted {number} " for number in range(len(MARKS) + 1, count + 1))
+    return MARKS
 
 
 def finish_work(work: Work, answers: list[Answer], board: BoardPart, reader: AnswerReader) -> Done:

@@ -36,8 +36,8 @@ VERSION = 1
 SOURCES = (
     "schema.sql days.sql gateway.sql web.sql views.sql finding_views.sql days_views.sql".split()
 )
-# How many partitions PostgreSQL's tables by station have.
-PARTITIONS = 16
+# How many partitions PostgreSQL's tables by station have: each one costs every statement that names keys some time.
+PARTITIONS = 8
 # How full PostgreSQL makes the pages of tables whose rows are written again: a row that stays on its page needs no
 # new entries in indexes.
 ROOM = {"session": 70, "part": 90, "finding": 90}

@@ -176,9 +176,9 @@ def find_session_sites(
     store: Database, keys: Sequence[Key], warm: "Warm | None" = None
 ) -> set[str]:
     """The sites of those of these transactions that are stored. `warm`: what this process stored last."""
-    kept: dict[Key, tuple[Kept, int]] = {} if warm is None else warm.kept
+    kept: dict[Key, Kept] = {} if warm is None else warm.kept
     found = fetch_keyed(store, "site", "session", [key for key in keys if key not in kept])
-    known = {kept[key][0].site for key in keys if key in kept}
+    known = {kept[key].site for key in keys if key in kept}
     return known | {row.site for one in found for row in one}
 
 
@@ -281,10 +281,8 @@ class Kept:
     site: str = ""
     changed: int | str | None = None
     course: Any = None
-
-    def measure(self) -> int:
-        """About how many bytes it takes."""
-        return sum(len(line.text) for line in self.lines) + 1_500 * len(self.lines) + 1_000
+    # About how many bytes all of it takes.
+    size: int = 0
 
 
 class Warm:
@@ -294,25 +292,24 @@ class Warm:
     def __init__(self, most: int = 256 * 1_048_576) -> None:
         """`most`: about how many bytes are kept."""
         self.most, self.size = most, 0
-        self.kept = OrderedDict[Key, tuple[Kept, int]]()
+        self.kept = OrderedDict[Key, Kept]()
 
     def take(self, key: Key, lines: int, changed: int | str | None) -> Kept | None:
         """Takes out what is kept of a transaction; none where something else is stored."""
         if key not in self.kept:
             return None
-        kept, size = self.kept.pop(key)
-        self.size -= size
+        kept = self.kept.pop(key)
+        self.size -= kept.size
         is_stored = changed is not None and (len(kept.lines), kept.changed) == (lines, changed)
         return kept if is_stored else None
 
     def keep(self, key: Key, kept: Kept) -> None:
         """Keeps what was committed of a transaction; others go where there is no room."""
-        size = kept.measure()
-        self.kept[key] = kept, size
-        self.size += size
+        self.kept[key] = kept
+        self.size += kept.size
         while self.size > self.most:
-            _, (_, size) = self.kept.popitem(last=False)
-            self.size -= size
+            _, one = self.kept.popitem(last=False)
+            self.size -= one.size
 
 
 # Writing -------------------------------------------------------------------------------------------------------------
@@ -325,7 +322,7 @@ def write_changed(store: Database, at: datetime) -> int | str:
 
 class Written(NamedTuple):
     """What a transaction has in the store from now on. `accepted`: its new lines; `course`: what the ledger knows of
-    all."""
+    all of them, and `size`: about how many bytes that takes."""
 
     held: Held
     accepted: Sequence[Line]
@@ -333,6 +330,7 @@ class Written(NamedTuple):
     parts: Sequence[Values]
     findings: Sequence[Values]
     course: Any
+    size: int
 
 
 class Writer:
@@ -355,6 +353,7 @@ class Writer:
             one.held.site,
             write_changed(self.store, self.at),
             one.course,
+            one.size,
         )
 
     def drop_empty(self, key: Key) -> None:

@@ -220,26 +220,23 @@ class Reader:
     def next_moment(self, site: str, station: str | None, since: datetime) -> datetime | None:
         """The first moment from one on at which a session of a site or of a station began or ended; None where there is
         none."""
-        found = list[datetime]()
-        for name in ("first_at", "last_at"):
-            sql = (
-                f"select min({name}) as {name} from session where site = :site and {name} >= :since"
-            )
-            rows = self.read_of(sql, site, station, "", since=since)
-            found += [rows[0][0]] if rows[0][0] is not None else []
-        return min(found, default=None)
+        values = {"since": since, "day": count_days(since)}
+        first = "select first_at as at from session where site = :site and first_at >= :since"
+        last = "select last_at as at from session where site = :site and last_day >= :day and last_at >= :since"
+        rows = self.read_of(first, site, station, " order by first_at limit 1", since=since)
+        rows += self.read_of(last, site, station, " order by last_day, last_at limit 1", **values)
+        return min((row[0] for row in rows), default=None)
 
     def moment_before(self, site: str, station: str | None, until: datetime) -> datetime | None:
         """The last moment before one at which a session of a site or of a station began or ended; None where there is
         none."""
-        found = list[datetime]()
-        for name in ("first_at", "last_at"):
-            sql = (
-                f"select max({name}) as {name} from session where site = :site and {name} < :until"
-            )
-            rows = self.read_of(sql, site, station, "", until=until)
-            found += [rows[0][0]] if rows[0][0] is not None else []
-        return max(found, default=None)
+        values = {"until": until, "day": count_days(until)}
+        first = "select first_at as at from session where site = :site and first_at < :until"
+        last = "select last_at as at from session where site = :site and last_day <= :day and last_at < :until"
+        rows = self.read_of(first, site, station, " order by first_at desc limit 1", until=until)
+        end = " order by last_day desc, last_at desc limit 1"
+        rows += self.read_of(last, site, station, end, **values)
+        return max((row[0] for row in rows), default=None)
 
     def station_moments(self, site: str, station: str) -> Iterator[datetime]:
         """The moments at which the sessions of a station began and ended."""
