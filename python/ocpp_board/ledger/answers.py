@@ -35,12 +35,8 @@ class Listed(NamedTuple):
     is_live: bool
 
 
-class Placed(NamedTuple):
-    """A reading with the number of its event, and its place among that event's readings of this register."""
-
-    number: int
-    place: int
-    reading: Reading
+# A reading with the number of its event, and its place among that event's readings of this register.
+Placed = tuple[int, int, Reading]
 
 
 class Total(NamedTuple):
@@ -154,7 +150,7 @@ def read_placed(lines: Iterable[str], is_export: bool) -> list[Placed]:
             _, place, at, level, *_ = line.split(" ", 4)
             number, _, rank = place.partition(".")
             reading = Reading(read_seconds(at), int(level), is_export)
-            found.append(Placed(int(number), int(rank), reading))
+            found.append((int(number), int(rank), reading))
     return found
 
 

@@ -1,7 +1,7 @@
 """What only the messages of a transaction have, joined with the lists by which the program says what counts."""
 
 import re
-from collections.abc import Iterable, Sequence
+from collections.abc import Iterable
 from dataclasses import dataclass, field
 from datetime import datetime
 from functools import lru_cache
@@ -22,7 +22,7 @@ from ocpp_board.records import DELIVER, Line
 # The members of messages of which the program's lists say nothing.
 BESIDE = "measurand phase location signedMeterValue stoppedReason idToken remoteStartId offline"
 BESIDE_WORDS = tuple(f'"{name}"' for name in BESIDE.split())
-# A unit that stands beside its value.
+# A unit that is beside its value.
 UNIT_WORD, UNIT_HOLDER = '"unit"', '"unitOfMeasure"'
 # The number of an event, in a text that has one member of this name.
 NUMBER_WORD = '"seqNo"'
@@ -144,8 +144,8 @@ class LiveEvents(list[Event]):
             else:
                 self.voided[listed.number] = listed.kind
         self += events.values()
-        self.orders[0].extend([(events[one.number], one.reading) for one in placed])
-        self.orders[1].extend([(events[one.number], one.reading) for one in exported])
+        self.orders[0].extend([(events[number], reading) for number, _, reading in placed])
+        self.orders[1].extend([(events[number], reading) for number, _, reading in exported])
 
 
 def make_event(listed: Listed, readings: tuple[Reading, ...], line: Line | None) -> Event:
@@ -167,17 +167,12 @@ def make_event(listed: Listed, readings: tuple[Reading, ...], line: Line | None)
     )
 
 
-def group_readings(readings: Sequence[Placed]) -> dict[int, tuple[Reading, ...]]:
+def group_readings(readings: Iterable[Placed]) -> dict[int, tuple[Reading, ...]]:
     """The readings of each event by its number: of the import register by their places, then of the export register."""
-    found = dict[int, list[Placed]]()
-    for one in readings:
-        found.setdefault(one.number, []).append(one)
+    found = dict[int, list[tuple[bool, int, Reading]]]()
+    for number, place, reading in readings:
+        found.setdefault(number, []).append((reading.is_export, place, reading))
     return {
-        number: tuple([one.reading for one in (sorted(own, key=name_place) if own[1:] else own)])
+        number: tuple([reading for _, _, reading in (sorted(own) if own[1:] else own)])
         for number, own in found.items()
     }
-
-
-def name_place(one: Placed) -> tuple[bool, int]:
-    """The place of a reading among those of its event."""
-    return one.reading.is_export, one.place

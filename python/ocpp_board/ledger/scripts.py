@@ -112,6 +112,27 @@ def part_scripts(
         yield script
 
 
+def join_scripts(rows: Iterable[Row], order: str) -> Iterator[tuple[Script, int]]:
+    """Scripts of a site's transactions, each with how many lines it has. Each row has all lines of a transaction as one
+    text."""
+    script, count = Script(order), 0
+    for row in rows:
+        if not row.text:
+            continue
+        # The program drops one carriage return before a line feed: a message's own stays.
+        text = f"{row.text}\n".replace("\r\n", "\r\r\n")[:-1]
+        lines, readings = text.count("\n") + 1, text.count('"value"')
+        if "\\" in text:
+            readings = sum(map(count_readings, text.split("\n")))
+        if not script.takes(row.station, lines, readings, len(text)):
+            yield script, count
+            script, count = Script(order), 0
+        script.add(row.station, [text], lines, readings)
+        count += lines
+    if script.lines:
+        yield script, count
+
+
 def write_line(row: Row) -> Iterator[str]:
     """A stored line. The program drops one carriage return before a line feed: the message's own stays."""
     yield row.line + "\r" if row.line.endswith("\r") else row.line

@@ -5,25 +5,32 @@ A site's lines are replayed in scripts of up to 64 stations; boards of scripts t
 
 from collections.abc import Iterable, Iterator, Sequence
 from datetime import datetime, timezone
-from typing import Any, NamedTuple
+from itertools import repeat
+from typing import Any, NamedTuple, TypeVar
 
 from ocpp_board.energies import Flow
 from ocpp_board.errors import OcppBoardError
 from ocpp_board.ledger.answers import AnswerReader, Board, BoardPart, Figures, Total
 from ocpp_board.ledger.engine import Pool
 from ocpp_board.ledger.program import find_program
-from ocpp_board.ledger.scripts import OWN_ORDERS, Script, part_scripts, write_line
+from ocpp_board.ledger.scripts import OWN_ORDERS, join_scripts
 from ocpp_board.limits import FIRST_MOMENT
 from ocpp_board.records import Rules
-from ocpp_board.store.database import Database
+from ocpp_board.store.database import Database, choose
 from ocpp_board.store.plan import RULES_COLUMNS, read_rules
 
+Item = TypeVar("Item")
 # Scripts that are made before they are answered.
 AT_ONCE = 8
-LINES = """
-select l.station, l.transaction_id, l.line from session s
-join line l on l.station = s.station and l.transaction_id = s.transaction_id
-where s.site = :site and s.own_order = :order order by l.station, l.transaction_id, l.number
+# All lines of a transaction as one text. SQLite joins them in the order in which they come.
+SESSIONS = """
+select s.station, (
+    select /*sqlite group_concat(line, char(10))*/ /*postgresql string_agg(line, chr(10) order by number)*/
+    from (
+        select l.number, l.line from line l where l.station = s.station and l.transaction_id = s.transaction_id
+        order by l.number
+    ) as sorted
+) as text from session s where s.site = :site and s.own_order = :order order by s.station
 """
 COUNTS = ("events", "voided", "transactions", "complete_transactions", "missing")
 FLOW = Flow._fields
@@ -90,22 +97,23 @@ def find_orphans(store: Database) -> None:
 def replay_site(store: Database, site: str, rules: Rules, pool: Pool | None) -> Board:
     """A site's board by the program, from all its lines. Raises Difference where a line is not accepted."""
     board = Board(site)
+    asked = choose(SESSIONS, store.kind)
     scripts = (
-        script
+        one
         for order in OWN_ORDERS
-        for script in part_scripts(store.stream(LINES, site=site, order=order), write_line, order)
+        for one in join_scripts(store.stream(asked, site=site, order=order), order)
     )
     for some in take_some(scripts, AT_ONCE):
-        pieces = [(script.write(site, rules), len(script.lines), site) for script in some]
+        pieces = [(script.write(site, rules), lines, site) for script, lines in some]
         boards = pool.imap(replay_script, pieces) if pool else map(replay_script, pieces)
         for one in boards:
             add_board(board, one)
     return board
 
 
-def take_some(scripts: Iterator[Script], count: int) -> Iterator[list[Script]]:
+def take_some(scripts: Iterable[Item], count: int) -> Iterator[list[Item]]:
     """Scripts in lists of so many."""
-    some = list[Script]()
+    some = list[Item]()
     for script in scripts:
         some.append(script)
         if len(some) == count:
@@ -119,11 +127,12 @@ def replay_script(piece: tuple[bytes, int, str]) -> Board:
     not."""
     script, lines, site = piece
     reader = AnswerReader(find_program().answer(script))
-    for number in range(lines):
-        if not (line := reader.read()).startswith("accepted "):
-            raise Difference(
-                f"site {site}: a stored line is answered {line[:80]!r}, line {number + 1} of its script"
-            )
+    answers = reader.read_some(lines)
+    if not all(map(str.startswith, answers, repeat("accepted "))):
+        number = next(n for n, line in enumerate(answers) if not line.startswith("accepted "))
+        raise Difference(
+            f"site {site}: a stored line is answered {answers[number][:80]!r}, line {number + 1} of its script"
+        )
     return reader.read_board()
 
 

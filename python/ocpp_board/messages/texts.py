@@ -63,7 +63,10 @@ def refused_json(fault: json.JSONDecodeError | RecursionError) -> Refused:
 def object_of(text: str) -> dict[str, Any]:
     """The JSON object that a text is. Raises Refused where it is none."""
     try:
-        entry = JSON.decode(text)
+        # Most texts begin with their object, and end with it.
+        entry, end = JSON.raw_decode(text) if text.startswith("{") else (None, -1)
+        if end < 0 or text[end:] not in ("", "\n"):
+            entry = JSON.decode(text)
     except (json.JSONDecodeError, RecursionError) as fault:
         raise refused_json(fault) from None
     if not isinstance(entry, dict):

@@ -114,7 +114,9 @@ def name_option(what: str) -> str:
 
 def find_time(entry: dict[str, Any], field: str) -> str | None:
     """A member that is a time: a text, or a number as digits. None where it is neither."""
-    value = find_member(entry, field)
+    value = entry.get(field)
+    if value is None:
+        value = find_member(entry, field)
     return f"{value:.3f}" if isinstance(value, float) else value if isinstance(value, str) else None
 
 

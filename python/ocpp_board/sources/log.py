@@ -182,16 +182,18 @@ class LogReader:
             return ANSWERS if is_answered else SENT
         needs_time = call is not None and has_moment(call[2])
         moment, note = self.find_moment(entry)
+        found: Mended | None = None
         if site in self.mender.mends:
             found = self.mender.mend(site, station, entry.message, moment)
+            texts = [check_text(station, text) for text in found.texts]
         else:
-            found = Mended((entry.message,))
-        texts = [check_text(station, text) for text in found.texts]
-        self.plan.admit(site, station)
+            texts = [check_text(station, entry.message)]
+        if self.plan.site_of.get(station) != site:
+            self.plan.admit(site, station)
         if not needs_time and not self.has_times:
             moment = note = None
         first = Message(station, texts[0], moment, f"{self.name}:{number}", site or None)
-        if not found.faults:
+        if found is None or not found.faults:
             return Read("messages", first, needs_time, note)
         mended = first._replace(mends=",".join(found.faults), came=entry.message)
         more = tuple(mended._replace(text=text) for text in texts[1:])
