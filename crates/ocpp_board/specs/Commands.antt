@@ -1,5 +1,5 @@
 -- The program's commands and options.
-use Rattle.std.{specs.Prelude.{ℕ, List, [], ◌∷◌, ◌++◌, Option, None, Some, codes, map}}
+use Rattle.std.specs.Prelude.{ℕ, List, [], ◌∷◌, ◌++◌, Option, None, Some, codes, map}
 use Rattle.clap.{specs.Simple.{App, Shape}, specs.Walk.Rule, specs.declared.builder.action.ArgAction.ArgAction, specs.declared.builder.action.ArgAction.TheVariants.{Append, SetTrue}}
 
 -- An argument: the name by which the program finds its values, its long name if it is an option, what a use of it does,

@@ -1,6 +1,5 @@
 -- Texts of a session, one after the other.
-use Rattle.std.proofs.Common.{◌≡◌, ◌+◌, ℕ, suc, Bool, true, false, ◌⊎◌, inl, inr, List, [], ◌∷◌, ◌++◌, length, Option, Some, None, Result, Ok, Err, refl, sym, subst, ap, ◌∙◌, arith, cond}
-use Rattle.std.{proofs.lemmas.Bool.false≢true, specs.Prelude.is_some}
+use Rattle.std.{proofs.Common.{◌≡◌, ◌+◌, ℕ, suc, Bool, true, false, ◌⊎◌, inl, inr, List, [], ◌∷◌, ◌++◌, length, Option, Some, None, Result, Ok, Err, refl, sym, subst, ap, ◌∙◌, arith, cond}, proofs.lemmas.Bool.false≢true, specs.Prelude.is_some}
 use Rattle.ledger_model.{specs.declared.answer.Answer.Answer, specs.declared.command.Command.Command}
 use Rattle.site_desk.{specs.declared.roster.StationPlace.StationPlace, specs.Cell.Held}
 use Rattle.station_link.{specs.declared.ending.Why.Why, specs.declared.ending.Ending.Ending, specs.Answer.reply_of, specs.Attended.{AreTurns, IsAttended, IsIdle, IsStill, IsTurn, IsUnsent, Point, Takes}, specs.Exchange.{AreQuiet, Comes, IsNoText, IsQuiet, Receives, Waits}}
