@@ -153,7 +153,7 @@ written_as() {
         # A follower is ended by a signal once its pages are there.
         echo "followed() {
             rm -f $made/as_written/live/index.html
-            \"\$@\" & local follower=\$! waits=300
+            timeout -s INT --preserve-status 400 \"\$@\" & local follower=\$! waits=300
             until [ -s $made/as_written/live/index.html ] || [ \$((waits -= 1)) = 0 ]; do sleep 1; done
             sleep 3; kill -INT \$follower; wait \$follower
         }"
@@ -162,7 +162,7 @@ written_as() {
             s|crates/ocpp_board/out/ocpp_board|$program|
             s|^python/ocpp-board follow|followed python/ocpp-board follow|"
         # What was started in the background ends with the page.
-        echo 'for job in $(jobs -p); do sleep 3; kill -0 $job && kill -INT $job || true; done; wait'
+        echo 'for job in $(jobs -p); do sleep 3; kill -0 $job && kill $job || true; done; wait'
     } > "$made/written.sh"
     # A background job of a shell without job control ignores an interrupt.
     if (cd "$top" && bash -em "$made/written.sh" < /dev/null) > "$made/given" 2> "$made/stderr"; then

@@ -75,9 +75,13 @@ def test_a_month_has_every_doubt_beside_its_sessions(store: Database) -> None:
     found = {station: row["findings"] for station, row in bills.items()}
     for row in store.fetch("select station, kind from finding"):
         assert row.kind in found[row.station]
-    assert found["sound"] == "" and "clock goes back" in found["clock-back"]
-    assert bills["no-reading"]["measured"] == bills["interval-energy"]["measured"] == "no"
-    assert (bills["no-end"]["complete"], bills["no-end"]["end_date_time"]) == ("no", "")
+    assert found["sound"] == "" and "later than its event" in found["clock-back"]
+    assert (
+        bills["no-reading"]["energy_measured"]
+        == bills["interval-energy"]["energy_measured"]
+        == "no"
+    )
+    assert (bills["no-end"]["messages_complete"], bills["no-end"]["end_date_time"]) == ("no", "")
     assert bills["missing-number"]["missing"] == "1"
     assert read_bills(store, month=2) == {}
 
@@ -207,7 +211,11 @@ def test_sessions_are_settled_by_rule(store: Database) -> None:
     assert list_open(store, SITE, now) == settle_by_rule(store, SITE, now, AUTHOR) == []
     close_day(store, SITE, None, "jo", now)
     row = read_bills(store)["A"]
-    assert (row["settled"], row["settled_by"], row["complete"]) == ("settled", "rule", "no")
+    assert (row["settled"], row["settled_by"], row["messages_complete"]) == (
+        "settled",
+        "rule",
+        "no",
+    )
     # What comes later is a correction.
     send(store, "A", sound("open", FIRST)[3:])
     assert close_day(store, SITE, None, "jo", now).corrections > 0

@@ -142,6 +142,23 @@ class Station(Client):
             self.sends(Frame(TEXT, (FIRST, SECOND)[number]).bytes())
             self.receives(Frame(TEXT, REPLIES[number], False).bytes())
 
+    def asks(self, text: bytes) -> bytes:
+        """Sends a text, and returns the text of at most 125 bytes that answers it."""
+        self.sends(Frame(TEXT, text).bytes())
+        kind, length = self.takes(2)
+        if kind != TEXT or length > 125:
+            raise Differs(f"a frame {kind:#x} of {length} bytes answers {text!r}")
+        return self.takes(length)
+
+    def takes(self, count: int) -> bytes:
+        """Reads so many bytes."""
+        read = bytearray()
+        while len(read) < count and (part := self.stream.recv(count - len(read))):
+            read += part
+        if len(read) < count:
+            raise Differs(f"{bytes(read)!r} came, and then the end")
+        return bytes(read)
+
     def leaves(self) -> None:
         """Closes the session; the server has to close it, too."""
         self.sends(close(1000).bytes())

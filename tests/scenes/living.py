@@ -20,6 +20,7 @@ import sys
 import threading
 import time
 from collections.abc import Callable
+from datetime import datetime
 
 from tests.scenes.client import (
     FIRST,
@@ -193,6 +194,34 @@ def operator_voids_between_events(program: str) -> None:
         station.reports(0)
         station.leaves()
         server.ends(boards(2, 0, 0))
+
+
+def host_time_of(reply: bytes, earliest: float) -> float:
+    """The moment of a reply's currentTime, which has to be the host's: not before this one, and not in the future."""
+    found = re.search(rb'"currentTime":"([0-9TZ:.-]+)"', reply)
+    if not found:
+        raise Differs(f"{reply!r} has no currentTime")
+    moment = datetime.fromisoformat(found[1].decode()).timestamp()
+    # (a moment is written in whole seconds)
+    if not int(earliest) <= moment <= time.time():
+        raise Differs(f"{found[1]!r} is not the host's time, {time.time()}")
+    return moment
+
+
+def replies_have_the_time_of_the_host(program: str) -> None:
+    """BootNotification and Heartbeat say the host's time, in a session and to the operator, and a later one later."""
+    with Live(program) as server:
+        station = Station(server, "A")
+        began = time.time()
+        host_time_of(station.asks(b'[2,"b","BootNotification",{}]'), began)
+        first = host_time_of(station.asks(b'[2,"h","Heartbeat",{}]'), began)
+        time.sleep(2.1)
+        if host_time_of(station.asks(b'[2,"h","Heartbeat",{}]'), began + 2) < first + 2:
+            raise Differs("the time of a session stands still")
+        server.says('msg B [2,"h","Heartbeat",{}]')
+        host_time_of(server.line(), began + 2)
+        station.leaves()
+        server.ends(boards(0, 0, 0))
 
 
 def faults_of_lines(program: str) -> None:
@@ -513,6 +542,7 @@ SCENES: tuple[Callable[[str], None], ...] = (
     half_open_connections_hold_no_station,
     client_takes_no_bytes,
     operator_voids_between_events,
+    replies_have_the_time_of_the_host,
     faults_of_lines,
     operator_delivers_and_asks,
     input_ends_within_a_line,

@@ -30,7 +30,13 @@ def test_a_log_is_followed_over_rotations(tmp_path: Path) -> None:
         status, reported = run.end()
         assert status == 0, reported
         (session,) = run.table("transactions")
-        names = ("complete", "up (mWh)", "start (UTC)", "end (UTC)", "findings")
+        names = (
+            "messages complete",
+            "up (milliwatt_hours)",
+            "start (UTC)",
+            "end (UTC)",
+            "findings",
+        )
         times = ["2026-03-01T10:00:00Z", "2026-03-01T10:03:00Z"]
         assert [session[name] for name in names] == ["yes", "300000", *times, ""]
         assert (run.folder / "out/index.html").exists()

@@ -5,6 +5,7 @@ from collections.abc import Iterator
 from pathlib import Path
 
 from ocpp_board.cli import COMMANDS
+from ocpp_board.ledger.kinds import Kind
 
 TOP = Path(__file__).resolve().parents[2]
 # A path from the top of the repository. Patterns and what a build makes are left out.
@@ -89,7 +90,7 @@ def read_pieces(text: str) -> Iterator[str]:
         else:
             piece = f"{piece} {line}"
         if line.startswith(("|", "#")):
-            yield from line.split("|")
+            yield from re.split(r"[|;]", line)
             piece = ""
     yield piece
 
@@ -171,3 +172,15 @@ def test_commands_of_tests_are_there() -> None:
     commands = {(page, *match) for page, match in found(TEST)}
     unknown = {(page, module, *unknown_options(module, words)) for page, module, words in commands}
     assert commands and not {one for one in unknown if len(one) > 2}
+
+
+def test_findings_are_those_of_the_ledger() -> None:
+    """tables.md lists each kind in the row of its effect, in order; those that hold a bill come first."""
+    lines = (TOP / "docs/tables.md").read_text().splitlines()
+    rows = [line.split("|") for line in lines if line.startswith("|") and "; " in line]
+    labels = {kind.label for kind in Kind}
+    listed = [(label, row[1]) for row in rows for label in row[2].strip().split("; ")]
+    found = [(label, effect) for label, effect in listed if label in labels]
+    assert [label for label, _ in found] == [kind.label for kind in Kind]
+    for kind, (_, effect) in zip(Kind, found):
+        assert kind.effect.value in effect and kind.holds == ("held" in effect)

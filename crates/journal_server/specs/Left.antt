@@ -4,16 +4,13 @@ use Rattle.site_desk.specs.Cell.{Held}
 use Rattle.journal_server.specs.declared.run.Served.{Served}
 
 -- The result of a server: the bytes that the writer of its journal has, those that its buffer kept,
--- whether a write failed, the boards, the passes, how many texts of stations were answered with
--- an accepted change, and how many boards browsers got.
+-- whether a write failed, the boards, and the passes.
 pub record Left : Type 0 where
   pub now : Option (List ℕ)
   pub buffer : List ℕ
   pub broken : Bool
   pub boards : List ℕ
   pub passes : List Held
-  pub answers : ℕ
-  pub browsed : ℕ
 
 -- The same of a value, at a writer of these contents.
 abbrev pub left_of : {W T : Type 0} → (W → Option (List ℕ)) → Served W T → Left
@@ -23,6 +20,4 @@ left_of contents s = record {
   broken = s.is_broken;
   boards = s.boards.items;
   passes = s.passes.items;
-  answers = s.answers;
-  browsed = s.browsed;
 }

@@ -3,8 +3,8 @@ ghost use Rattle.std.specs.Prelude.{◌≡◌, IfOk, None, OnErr, Some, slice_ge
 ghost use Rattle.kept_desk.specs.Entries.{IsNote};
 ghost use Rattle.ledger_model.{specs.declared.answer.Answer.Answer, specs.declared.answer.Refusal.Refusal, specs.declared.command.Command.Command};
 ghost use Rattle.script_lines.{specs.LineMeaning.{commands, line_meaning}, specs.Lines.line_bytes};
-ghost use Rattle.site_desk.{specs.declared.roster.StationPlace.StationPlace, specs.Roster.IsNamed, specs.Submit.Submitted};
-ghost use Rattle.station_link.specs.Answer.{Asks, IsSubmitted};
+ghost use Rattle.site_desk.{specs.declared.roster.StationPlace.StationPlace, specs.Roster.IsNamed};
+ghost use Rattle.station_link.specs.Answer.{Asks, IsSettled, IsSubmitted};
 
 use arrayvec::ArrayString;
 use energy_flow::Work;
@@ -12,7 +12,7 @@ use journal_script::{MessageLine, RECEIPT_BYTES, is_script_line, laws, receipt_n
 use kept_desk::{KeptCell, KeptDesk, Line, Moment, Opening};
 use ledger_model::{Answer, Command, Name, Refusal};
 use running_desk::{MayBreak, Seen, Serves, SystemMoments};
-use site_book::{Naming, Told};
+use site_book::Naming;
 use site_desk::{BoardFault, Desk, Gate, NoGate, Pass};
 use station_link::{Delivers, MomentSource, Ordered};
 use std::alloc::{AllocError, Global};
@@ -42,12 +42,11 @@ impl<J: Naming, K: Opening, W: Write + Drop> Serving<J, K, W> {
 }
 
 // The answer that nothing more is accepted.
-fn exhausted<J: Naming, K: Opening>() -> (Answer, Option<Told<J>>, Option<Moment<K>>)
+fn exhausted<K: Opening>() -> (Answer, Option<Moment<K>>)
     ensures answer { result.0 ≡ Answer.Refused Refusal.ChangesExhausted }
-    ensures told { result.1 ≡ None }
-    ensures seen { result.2 ≡ None }
+    ensures seen { result.1 ≡ None }
 {
-    (Answer::Refused(Refusal::ChangesExhausted), None, None)
+    (Answer::Refused(Refusal::ChangesExhausted), None)
 }
 
 impl<J: Naming + Send + Sync, K: Opening + Send + Sync, W: Write + Drop> Delivers
@@ -62,6 +61,7 @@ impl<J: Naming + Send + Sync, K: Opening + Send + Sync, W: Write + Drop> Deliver
 
     ghost gives = { IsKeptAnswer K.first };
 
+    #[tactic(auto, using(crate::proofs::Submitted::nothing_more))]
     fn deliver<G: Gate, R: Wait + Clock>(
         &self,
         rt: &R,
@@ -69,7 +69,7 @@ impl<J: Naming + Send + Sync, K: Opening + Send + Sync, W: Write + Drop> Deliver
         pass: &mut Pass,
         ordered: Ordered<'_>,
         gate: &G,
-    ) -> Result<(Answer, Option<Told<J>>, Option<Moment<K>>), AllocError> {
+    ) -> Result<(Answer, Option<Moment<K>>), AllocError> {
         let Ordered { text, key, event } = ordered;
         let Some(name) = self.kept.desk().name_of(pass.station()) else {
             return Ok(exhausted());
@@ -84,7 +84,8 @@ impl<J: Naming + Send + Sync, K: Opening + Send + Sync, W: Write + Drop> Deliver
         };
         let note = self.note(rt);
         let (command, note) = (Command::Deliver(key, event), note.as_str().as_bytes());
-        Ok(self.kept.submit(rt, pass, command, note, line, gate))
+        let (answer, _told, seen) = self.kept.submit(rt, pass, command, note, line, gate);
+        Ok((answer, seen))
     }
 }
 
@@ -102,6 +103,7 @@ impl<J: Naming + Send + Sync, K: Opening + Send + Sync, W: Write + Drop> Serves
         self.kept.desk()
     }
 
+    #[tactic(auto, using(crate::proofs::Submitted::settles_nothing))]
     fn command<R: Wait + Clock>(
         &self,
         rt: &R,
@@ -109,7 +111,7 @@ impl<J: Naming + Send + Sync, K: Opening + Send + Sync, W: Write + Drop> Serves
         name: &Name,
         what: Command,
         line: Option<&[u8]>,
-    ) -> (Answer, Option<Told<J>>, Option<Moment<K>>) {
+    ) -> (Answer, Option<Moment<K>>) {
         let Some(bytes) = line else {
             return exhausted();
         };
@@ -119,7 +121,8 @@ impl<J: Naming + Send + Sync, K: Opening + Send + Sync, W: Write + Drop> Serves
         let note = self.note(rt);
         let note = note.as_str().as_bytes();
         let line = Line::Bytes(bytes);
-        self.kept.submit(rt, pass, what, note, line, &NoGate)
+        let (answer, _told, seen) = self.kept.submit(rt, pass, what, note, line, &NoGate);
+        (answer, seen)
     }
 
     fn boards<R: Wait>(

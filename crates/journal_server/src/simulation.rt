@@ -59,8 +59,6 @@ pub fn simulate<R: Host + RandomSource, T: Output>(
         is_broken: served.is_broken,
         boards: served.boards,
         passes: served.passes,
-        answers: served.answers,
-        browsed: served.browsed,
         ended: served.ended,
         console,
     })

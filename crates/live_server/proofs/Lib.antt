@@ -1,4 +1,3 @@
 mod Asking
 pub mod Browsing
 pub mod Told
-mod Appended

@@ -2,7 +2,6 @@
 use Rattle.std.{proofs.Common.{◌≡◌, ℕ, List, [], codes, Option, None, Some, Result, Ok, Err, refl, subst, sym}, specs.Prelude.{IfOk, OnOk}, specs.Io.KnownBytes.Appends, proofs.KnownBytes.{Appends-nil, Appends-trans}, proofs.lemmas.List.Elements.All-nil}
 use Rattle.ledger_model.{specs.declared.answer.Answer.Answer, specs.declared.command.Command.Command, specs.Board.Board}
 use Rattle.script_lines.{specs.LineMeaning.line_meaning, specs.Lines.Line}
-use Rattle.site_book.specs.Book.{Known}
 use Rattle.site_desk.{specs.declared.plan.SitePlan.SitePlan, specs.declared.roster.StationPlace.StationPlace}
 use Rattle.running_desk.{specs.Ports.at_port, specs.Ordered.lines_in, specs.Replied.IsReplyOrMemory, specs.Replies.{AddsReplies, Replied}}
 use Rattle.live_server.specs.Told.{Tells, operator_input, ports}
@@ -15,7 +14,7 @@ pub both_told : {T E : Type 0} (r : Result T E) (w0 w1 w2 : Option (List ℕ))
 both_told (Ok _) w0 w1 w2 first then = (first.0, Some then.0, Appends-trans w0 w1 w2 (at_port (codes "listening") first.0) (at_port (codes "boards") then.0) first.1 then.1)
 both_told (Err _) w0 w1 w2 first then = then
 
-module _ {M Z : Type 0} (gives : ℕ → StationPlace → Command → Answer → Option Known → Option M → Type 0) (shows : Z → ℕ → List (List ℕ × Board) → M → Type 0) where
+module _ {M Z : Type 0} (gives : ℕ → StationPlace → Command → Answer → Option M → Type 0) (shows : Z → ℕ → List (List ℕ × Board) → M → Type 0) where
   -- where it listens, and answers behind it, once it ended well
   then_replies : {T E : Type 0} (r : Result T E) (handed : T → List M) (z : Z) (sites : List SitePlan) (places : List StationPlace)
       (coming : Option (List Line)) (w0 w1 w2 : Option (List ℕ))
@@ -38,7 +37,7 @@ module _ {M Z : Type 0} (gives : ℕ → StationPlace → Command → Answer →
       (subst (λ p. IfOk r (λ seen. AddsReplies gives (shows z') sites' p coming w1 w2 (handed seen))) there
       (subst (λ k. IfOk r (λ seen. AddsReplies gives (shows z') sites' places' k w1 w2 (handed seen))) comes then))))
 
-module _ {M : Type 0} (gives : ℕ → StationPlace → Command → Answer → Option Known → Option M → Type 0)
+module _ {M : Type 0} (gives : ℕ → StationPlace → Command → Answer → Option M → Type 0)
     (shows : ℕ → List (List ℕ × Board) → M → Type 0) (sites : List SitePlan) (places : List StationPlace) where
   -- where an operator's lines are read, they are those of the input
   pub of_operator : {T E : Type 0} (r : Result T E) (handed : T → List M) (connections : Option ℕ) (input w0 w1 : Option (List ℕ)) → connections ≡ None

@@ -4,7 +4,6 @@ use Rattle.ledger_model.{specs.declared.answer.Answer.Answer, specs.declared.com
 use Rattle.script_lines.specs.Lines.{Line}
 use Rattle.site_desk.{specs.declared.plan.SitePlan.SitePlan, specs.declared.roster.StationPlace.StationPlace}
 use Rattle.running_desk.{specs.Ports.at_port, specs.Replies.AddsReplies}
-use Rattle.site_book.specs.Book.{Known}
 
 -- The lines of its ports: for stations, and for browsers if it listens for them.
 abbrev pub ports : ℕ → Option ℕ → List ℕ
@@ -18,7 +17,7 @@ operator_input (Some connections) input = Some []
 
 -- The lines of the server's ports were appended, and then the answers to the operator's lines that
 -- come, up to the line `close`; `handed` is what was seen of the desk's journal with these answers.
-pub record Tells {M : Type 0} (gives : ℕ → StationPlace → Command → Answer → Option Known → Option M → Type 0)
+pub record Tells {M : Type 0} (gives : ℕ → StationPlace → Command → Answer → Option M → Type 0)
     (shows : ℕ → List (List ℕ × Board) → M → Type 0) (sites : List SitePlan) (places : List StationPlace)
     (coming : Option (List Line)) (before now : Option (List ℕ)) (handed : List M) : Type 0 where
   pub port : ℕ

@@ -30,7 +30,6 @@ mod request;
 mod seats;
 mod service;
 mod session;
-mod session_answers;
 mod shared;
 mod watch;
 mod workers;

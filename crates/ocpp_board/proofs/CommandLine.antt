@@ -1,7 +1,7 @@
 -- The parser's definition gives the matches of a program with options and commands.
-use Rattle.std.{proofs.Common.{◌≡◌, ◌∙◌, ◌+◌, ◌==◌, ◌&&◌, ◌||◌, ℕ, Bool, min, cond, true, false, not, refl, sym, ap, List, [], ◌∷◌, ◌++◌, map, Some, is_some, true≢false, Result, Ok, Err}, specs.Prelude.{IfOk, unwrap_or}, specs.List.{count_by, list_all, list_any}, proofs.lemmas.List.Folds.list_all-append, proofs.lemmas.List.Recursion.is_count_by, proofs.Math.Bool.and-false}
+use Rattle.std.{proofs.Common.{◌≡◌, ◌∙◌, ◌+◌, ◌==◌, ◌&&◌, ◌||◌, ℕ, Bool, min, cond, true, false, not, refl, sym, ap, List, [], ◌∷◌, ◌++◌, map, Some, is_some, true≢false, Result, Ok, Err}, specs.Prelude.{IfOk, unwrap_or}, specs.List.{count_by, list_all, list_any}, proofs.lemmas.List.Folds.list_all-append, proofs.lemmas.List.map-append, proofs.lemmas.List.Recursion.is_count_by, proofs.Math.Bool.and-false}
 use Rattle.clap.{specs.Lexer.usize_max, specs.Walk.{Rule, is_early_multiple, is_multiple, rule_of}, specs.Simple.{App, Shape, app_of, built, built_above, built_leaf, filled, filled_from, help_rule, help_shape, index_after, inherited, is_in_order, is_positional, is_ready, is_ready_leaf, is_simple, is_simple_leaf, marked_built, on_top, shape_of, version_rule, with_built_subs, with_filled_rules, with_help_flag, with_index, with_inherited, with_leaf_noted, with_subcommand, with_version_flag}, specs.Built.{AddsArg, AddsSubcommand}, specs.declared.builder.arg.Arg.Arg, specs.declared.builder.command.Command.Command}
-use Rattle.ocpp_board.specs.Options.{IsCommand, IsOption, IsPlaced, IsProgram, TakesOptions, are_options, are_readable, is_command, is_option_rule, is_plain_rule}
+use Rattle.ocpp_board.{specs.Commands.{Argument, CommandWords, argument_of, commands_of, with_argument, words_of}, specs.Options.{IsCommand, IsOption, IsPlaced, IsProgram, TakesOptions, are_options, are_readable, is_command, is_option_rule, is_plain_rule}}
 
 -- both of two tests
 both : (a b : Bool) → (a && b) ≡ true → (a ≡ true) × (b ≡ true)
@@ -247,6 +247,29 @@ pub command_more_ok : {E : Type 0} (r : Result Command E) (old sub : Command) �
 command_more_ok (Ok new) old sub adds command is = command_more old new sub adds command is
 command_more_ok (Err e) old sub adds command is = adds
 
-pub program_simple_ok : {E : Type 0} (r : Result Command E) → IfOk r (λ p. IsProgram (app_of p)) → IfOk r (λ p. is_simple (app_of p) ≡ true)
-program_simple_ok (Ok p) is = program_simple (app_of p) is
-program_simple_ok (Err e) is = is
+-- a command with one argument more, in words
+argument_more : (old new : Command) (a : Arg) → AddsArg old a new → a.global ≡ false → words_of (app_of new).top ≡ with_argument (words_of (app_of old).top) (argument_of (rule_of a))
+argument_more old new a adds local =
+    ap (λ x. words_of x.top) (adds.shape local) ∙ (λ i. record { name = (app_of old).top.name; arguments = map-append argument_of (app_of old).top.rules (rule_of a ∷ []) i })
+
+pub argument_more_ok : {E : Type 0} (r : Result Command E) (old : Command) (a : Arg) → IfOk r (AddsArg old a) → a.global ≡ false
+    → IfOk r (λ new. words_of (app_of new).top ≡ with_argument (words_of (app_of old).top) (argument_of (rule_of a)))
+argument_more_ok (Ok new) old a adds local = argument_more old new a adds local
+argument_more_ok (Err e) old a adds local = adds
+
+-- a program with one command more, in words
+words_more : (old new sub : Command) → AddsSubcommand old sub new → IsCommand sub → commands_of (app_of new) ≡ commands_of (app_of old) ++ words_of (app_of sub).top ∷ []
+words_more old new sub adds command = ap commands_of (adds.shape command.local) ∙ map-append words_of (app_of old).subs (shape_of sub ∷ [])
+
+pub words_more_ok : {E : Type 0} (r : Result Command E) (old sub : Command) → IfOk r (AddsSubcommand old sub) → IsCommand sub
+    → IfOk r (λ new. commands_of (app_of new) ≡ commands_of (app_of old) ++ words_of (app_of sub).top ∷ [])
+words_more_ok (Ok new) old sub adds command = words_more old new sub adds command
+words_more_ok (Err e) old sub adds command = adds
+
+-- what is known of a command, its argument and the command with it
+pub one_more : {w w' l : CommandWords} {x a : Argument} → w' ≡ with_argument w x → w ≡ l → x ≡ a → w' ≡ with_argument l a
+one_more e f g = e ∙ (λ i. with_argument (f i) (g i))
+
+-- what is known of a program's commands, one command and the program with it
+pub next_command : {cs cs' ls : List CommandWords} {w v : CommandWords} → cs' ≡ cs ++ w ∷ [] → cs ≡ ls → w ≡ v → cs' ≡ ls ++ v ∷ []
+next_command e f g = e ∙ (λ i. f i ++ g i ∷ [])

@@ -142,9 +142,9 @@ journal_run {W} contents consoles reports errors ran (Err fault) holds h is =
     let ended : Result (Unit {0}) JournalFault = Err fault in
     let P : Option W → Type 0 =
     λ o. IfSome o (λ x. (answered : Option (List ℕ))
-    × holds (record { now = contents x; buffer = []; broken = false; boards = []; passes = ran.passes.items; answers = 0; browsed = 0 }) ended answered
+    × holds (record { now = contents x; buffer = []; broken = false; boards = []; passes = ran.passes.items }) ended answered
     × OnOk ended (HasOutput consoles ran.console (λ now. Appends answered now []))) in
-    record { ended = ended; end = is.0; buffer = []; broken = false; boards = []; answers = 0; browsed = 0; journal = subst P (sym is.1) h; given = h }
+    record { ended = ended; end = is.0; buffer = []; broken = false; boards = []; journal = subst P (sym is.1) h; given = h }
 journal_run {W} contents consoles reports errors ran (Ok s) holds h is =
     let P : Option W → List Held
     → Type 0 = λ o ps. IfSome o
@@ -155,8 +155,6 @@ journal_run {W} contents consoles reports errors ran (Ok s) holds h is =
       broken = s.is_broken;
       boards = s.boards.items;
       passes = ps;
-      answers = s.answers;
-      browsed = s.browsed;
     }) is.0 answered
     × OnOk is.0 (HasOutput consoles ran.console (λ now. Appends answered now s.boards.items))) in
     let both = on_both is.0 (s.ended ≡ Ok tt) (HasOutput consoles ran.console (λ now. Appends (consoles s.console) now s.boards.items)) is.4 in
@@ -166,8 +164,6 @@ journal_run {W} contents consoles reports errors ran (Ok s) holds h is =
       buffer = s.unwritten.items;
       broken = s.is_broken;
       boards = s.boards.items;
-      answers = s.answers;
-      browsed = s.browsed;
       journal = subst (λ o. P o ran.passes.items) (sym is.2) (subst (λ ps. P (Some s.journal) ps) (sym (λ i. (is.3 i).items)) (consoles s.console, h is.0 both.0, both.1));
       given = subst (λ (o : Option W). OnOk is.0 (is_some o ≡ true)) (sym is.2) (always is.0);
     }

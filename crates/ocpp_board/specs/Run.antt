@@ -16,7 +16,7 @@ use Rattle.board_report.specs.declared.closed.BoardsFault.TheVariants as board
 use Rattle.site_desk.specs.declared.fault.CloseFault.TheVariants as close
 use Rattle.site_desk.specs.declared.fault.DeskFault.TheVariants as desk
 use Rattle.station_link.specs.declared.sim.SimFault.TheVariants as sim
-use Rattle.ocpp_board.{specs.declared.asked.Task.Task, specs.declared.asked.Task.TheVariants.{Replay, Serve, ServeRestored, Simulate}, specs.declared.station_words.WordFault.WordFault, specs.declared.station_words.WordFault.TheVariants.{BadLimits, BadStation, PlanLimit}, specs.declared.run.Ran.Ran, specs.Arguments.IsAskedBy}
+use Rattle.ocpp_board.{specs.declared.asked.Task.Task, specs.declared.asked.Task.TheVariants.{Replay, Serve, ServeRestored, Simulate}, specs.declared.station_words.WordFault.WordFault, specs.declared.station_words.WordFault.TheVariants.{BadLimits, BadStation, PlanLimit}, specs.declared.run.Ran.Ran, specs.Arguments.IsAskedBy, specs.Commands.{board_commands, commands_of}}
 
 -- The name of a fault of a server.
 abbrev pub service_name : ServiceFault → List ℕ
@@ -101,11 +101,9 @@ pub record IsJournalRun {W C E : Type 0} (contents : W → Option (List ℕ)) (c
   pub buffer : List ℕ
   pub broken : Bool
   pub boards : List ℕ
-  pub answers : ℕ
-  pub browsed : ℕ
   pub journal : IfSome ran.ended.output
       (λ output. (answered : Option (List ℕ))
-      × holds (record { now = contents output; buffer = buffer; broken = broken; boards = boards; passes = ran.passes.items; answers = answers; browsed = browsed }) ended answered
+      × holds (record { now = contents output; buffer = buffer; broken = broken; boards = boards; passes = ran.passes.items }) ended answered
       × OnOk ended (HasOutput consoles ran.console (λ now. Appends answered now boards)))
   pub given : OnOk ended (is_some ran.ended.output ≡ true)
 
@@ -162,9 +160,8 @@ IsRun contents consoles reports app words input output console errors ran =
     ((asked : Task) × IsAskedBy (subcommand_of app words) asked × Runs contents consoles reports asked input output console errors ran)
     ⊎ ((kind : ErrorKind) × IsRefusal contents reports kind output errors ran.ended × (takes app words ≡ true → IsReported reports errors ran.ended (Err replay.OutOfMemory)))
 
--- A run of the program: there was no memory for its commands and options, or it is a run by some definition of
--- commands and options.
+-- A run of the program: there was no memory for its commands and options, or it is a run by these commands and options.
 abbrev pub IsProgramRun : {W C E : Type 0} → (W → Option (List ℕ)) → (C → Option (List ℕ)) → (E → Option (List ℕ)) → List (List ℕ) → Option (List ℕ) → W → C → E → Ran W C E → Type 0
 IsProgramRun contents consoles reports words input output console errors ran =
     IsReported reports errors ran.ended (Err replay.OutOfMemory)
-    ⊎ ((app : App) × (is_simple app ≡ true) × IsRun contents consoles reports app words input output console errors ran)
+    ⊎ ((app : App) × (is_simple app ≡ true) × (commands_of app ≡ board_commands) × IsRun contents consoles reports app words input output console errors ran)

@@ -1,7 +1,7 @@
 //! The program's commands and options.
-ghost use Rattle.std.specs.Prelude.{◌≡◌, IfOk, true};
-ghost use Rattle.clap.specs.Simple.{app_of, is_simple};
-ghost use Rattle.ocpp_board.specs.Options.{IsCommand, IsOption, IsPlaced, IsProgram, TakesOptions};
+ghost use Rattle.std.specs.Prelude.{◌≡◌, ◌∷◌, ◌++◌, [], IfOk, codes, true};
+ghost use Rattle.clap.{specs.Simple.{app_of, is_simple}, specs.Walk.rule_of};
+ghost use Rattle.ocpp_board.{specs.Commands.{argument_of, board_commands, commands_of, defaulted, flag, placed, replay_words, serve_begun, serve_lived, serve_numbered, serve_words, sim_begun, sim_words, valued, with_argument, words_of}, specs.Options.{IsCommand, IsOption, IsPlaced, IsProgram, TakesOptions}};
 
 use crate::asked::{MAX_CONNECTIONS, MAX_SIMULATED_STATIONS};
 use clap::{Arg, ArgAction, Command, value_parser};
@@ -105,24 +105,37 @@ Example:
 Exit status: 0; 1 with `fault <name>` (ListenFailed, HandshakeFailed, ReadFault, WriteFault,
 OutOfMemory, Torn); 2 for a fault of the arguments.";
 
-/// The program and its commands. The matches of its words are those of `clap`'s definition.
+/// The program and its commands, which are `board_commands`. The matches of its words are those of `clap`'s definition.
 pub fn program<'a>(alloc: Global) -> Result<Command<'a>, AllocError>
-    ensures { IfOk result (λ p. is_simple (app_of p) ≡ true) }
+    ensures simple { IfOk result (λ p. is_simple (app_of p) ≡ true) }
+    ensures commands { IfOk result (λ p. commands_of (app_of p) ≡ board_commands) }
 {
     let program = Command::new(alloc, "ocpp_board")
         .version(VERSION)
         .about(ABOUT)
         .after_help(LINES);
+    with_commands(alloc, program)
+}
+
+// The program with its commands.
+fn with_commands<'a>(alloc: Global, program: Command<'a>) -> Result<Command<'a>, AllocError>
+    requires program { IsProgram (app_of program) }
+    requires none { commands_of (app_of program) ≡ [] }
+    ensures simple { IfOk result (λ p. is_simple (app_of p) ≡ true) }
+    ensures commands { IfOk result (λ p. commands_of (app_of p) ≡ board_commands) }
+{
     let program = with_command(program, replay_command(alloc))?;
     let program = with_command(program, serve_command(alloc)?)?;
-    with_command(program, sim_command(alloc)?)
+    let program = with_command(program, sim_command(alloc)?)?;
+    Ok(program)
 }
 
 // The program with one command more.
 fn with_command<'a>(program: Command<'a>, command: Command<'a>) -> Result<Command<'a>, AllocError>
     requires program { IsProgram (app_of program) }
     requires command { IsCommand command }
-    ensures { IfOk result (λ p. IsProgram (app_of p)) }
+    ensures program { IfOk result (λ p. IsProgram (app_of p)) }
+    ensures words { IfOk result (λ p. commands_of (app_of p) ≡ commands_of (app_of program.entry) ++ words_of (app_of command.entry).top ∷ []) }
 {
     program.subcommand(command)
 }
@@ -131,7 +144,8 @@ fn with_command<'a>(program: Command<'a>, command: Command<'a>) -> Result<Comman
 fn with_option<'a>(command: Command<'a>, option: Arg<'a>) -> Result<Command<'a>, AllocError>
     requires command { TakesOptions command }
     requires option { IsOption option }
-    ensures { IfOk result TakesOptions }
+    ensures takes { IfOk result TakesOptions }
+    ensures words { IfOk result (λ r. words_of (app_of r).top ≡ with_argument (words_of (app_of command.entry).top) (argument_of (rule_of option.entry))) }
 {
     command.arg(option)
 }
@@ -140,71 +154,72 @@ fn with_option<'a>(command: Command<'a>, option: Arg<'a>) -> Result<Command<'a>,
 fn with_words<'a>(command: Command<'a>, words: Arg<'a>) -> Result<Command<'a>, AllocError>
     requires command { TakesOptions command }
     requires words { IsPlaced words }
-    ensures { IfOk result IsCommand }
+    ensures command { IfOk result IsCommand }
+    ensures words { IfOk result (λ r. words_of (app_of r).top ≡ with_argument (words_of (app_of command.entry).top) (argument_of (rule_of words.entry))) }
 {
     command.arg(words)
 }
 
 // The command `replay`.
 fn replay_command<'a>(alloc: Global) -> Command<'a>
-    ensures { IsCommand result }
+    ensures command { IsCommand result }
+    ensures words { words_of (app_of result).top ≡ replay_words }
 {
     Command::new(alloc, "replay").about("Answers a script from standard input on standard output")
 }
 
 // The command `serve`.
 fn serve_command<'a>(alloc: Global) -> Result<Command<'a>, AllocError>
-    ensures { IfOk result IsCommand }
+    ensures command { IfOk result IsCommand }
+    ensures words { IfOk result (λ r. words_of (app_of r).top ≡ serve_words) }
 {
     let command = Command::new(alloc, "serve")
         .about("Serves charging stations over WebSocket, and writes the boards when all have left")
         .after_help(SERVE_EXAMPLE);
     let command = with_numbers(alloc, command)?;
     let command = with_life(alloc, command)?;
-    with_words(command, station_words(alloc)?)
+    let command = with_words(command, station_words(alloc)?)?;
+    Ok(command)
 }
 
 // The command with the options that have a value.
 fn with_numbers<'a>(alloc: Global, command: Command<'a>) -> Result<Command<'a>, AllocError>
-    requires { TakesOptions command }
-    ensures { IfOk result TakesOptions }
+    requires takes { TakesOptions command }
+    requires words { words_of (app_of command).top ≡ serve_begun }
+    ensures takes { IfOk result TakesOptions }
+    ensures words { IfOk result (λ r. words_of (app_of r).top ≡ serve_numbered) }
 {
     let command = with_option(command, port_option(alloc))?;
     let command = with_option(command, connections_option(alloc))?;
     let command = with_option(command, watch_option(alloc))?;
-    let help = "The settlement period of all sites' boards, in seconds";
-    let period = option(alloc, "period", "SECONDS", "900", help).value_parser(PERIODS.as_slice());
-    let command = with_option(command, period)?;
-    let order = option(alloc, "order", "WORD", "sequence", ORDER).value_parser(ORDERS.as_slice());
-    let command = with_option(command, order)?;
-    let settle = option(alloc, "settle", "WORD", "later", SETTLE).value_parser(RULES.as_slice());
-    let command = with_option(command, settle)?;
-    with_option(command, limits_option(alloc))
+    let command = with_option(command, period_option(alloc))?;
+    let command = with_option(command, order_option(alloc))?;
+    let command = with_option(command, settle_option(alloc))?;
+    let command = with_option(command, limits_option(alloc))?;
+    Ok(command)
 }
 
 // The command with the options of a live server.
 fn with_life<'a>(alloc: Global, command: Command<'a>) -> Result<Command<'a>, AllocError>
-    requires { TakesOptions command }
-    ensures { IfOk result TakesOptions }
+    requires takes { TakesOptions command }
+    requires words { words_of (app_of command).top ≡ serve_numbered }
+    ensures takes { IfOk result TakesOptions }
+    ensures words { IfOk result (λ r. words_of (app_of r).top ≡ serve_lived) }
 {
-    let live = flag(alloc, "live", LIVE).conflicts_with("connections")?;
-    let command = with_option(command, live)?;
-    let command = with_option(
-        command,
-        flag(alloc, "journal", JOURNAL).requires_arg("live")?,
-    )?;
-    let times = flag(alloc, "receipt-times", TIMES).requires_arg("journal")?;
-    let command = with_option(command, times)?;
+    let command = with_option(command, live_option(alloc)?)?;
+    let command = with_option(command, journal_option(alloc)?)?;
+    let command = with_option(command, times_option(alloc)?)?;
     let command = with_option(command, restore_option(alloc)?)?;
-    let left_out = flag(alloc, "allow-left-out", LEFT_OUT).conflicts_with("stations")?;
-    let command = with_option(command, left_out.requires_arg("restore")?)?;
-    let command = with_option(command, flag(alloc, "log", LOG).requires_arg("live")?)?;
-    with_option(command, board_port_option(alloc)?)
+    let command = with_option(command, left_out_option(alloc)?)?;
+    let command = with_option(command, log_option(alloc)?)?;
+    let command = with_option(command, board_port_option(alloc)?)?;
+    Ok(command)
 }
 
 // An option without a value.
 fn flag<'a>(alloc: Global, name: &'a str, help: &'a str) -> Arg<'a>
-    ensures { IsOption result }
+    ensures option { IsOption result }
+    ensures words { argument_of (rule_of result) ≡ flag name.entry.now }
 {
     Arg::new(alloc, name)
         .long(name)
@@ -220,7 +235,8 @@ fn option<'a>(
     default: &'a str,
     help: &'a str,
 ) -> Arg<'a>
-    ensures { IsOption result }
+    ensures option { IsOption result }
+    ensures words { argument_of (rule_of result) ≡ defaulted name.entry.now default.entry.now }
 {
     Arg::new(alloc, name)
         .long(name)
@@ -230,14 +246,16 @@ fn option<'a>(
 }
 
 fn port_option<'a>(alloc: Global) -> Arg<'a>
-    ensures { IsOption result }
+    ensures option { IsOption result }
+    ensures words { argument_of (rule_of result) ≡ defaulted (codes "port") (codes "0") }
 {
     let help = "The port of 127.0.0.1 to listen on; 0 lets the system choose";
     option(alloc, "port", "PORT", "0", help).value_parser(value_parser!(u16))
 }
 
 fn connections_option<'a>(alloc: Global) -> Arg<'a>
-    ensures { IsOption result }
+    ensures option { IsOption result }
+    ensures words { argument_of (rule_of result) ≡ defaulted (codes "connections") (codes "1") }
 {
     let help = "How many connections to serve before it ends, 1 to 64; one unless this is given";
     option(alloc, "connections", "COUNT", "1", help).value_parser(value_parser!(u8).range(
@@ -246,7 +264,8 @@ fn connections_option<'a>(alloc: Global) -> Arg<'a>
 }
 
 fn watch_option<'a>(alloc: Global) -> Arg<'a>
-    ensures { IsOption result }
+    ensures option { IsOption result }
+    ensures words { argument_of (rule_of result) ≡ defaulted (codes "watch") (codes "0") }
 {
     let help =
         "How many times to write each site's totals to standard error, one second apart, 0 to 600";
@@ -255,8 +274,31 @@ fn watch_option<'a>(alloc: Global) -> Arg<'a>
     ))
 }
 
+fn period_option<'a>(alloc: Global) -> Arg<'a>
+    ensures option { IsOption result }
+    ensures words { argument_of (rule_of result) ≡ defaulted (codes "period") (codes "900") }
+{
+    let help = "The settlement period of all sites' boards, in seconds";
+    option(alloc, "period", "SECONDS", "900", help).value_parser(PERIODS.as_slice())
+}
+
+fn order_option<'a>(alloc: Global) -> Arg<'a>
+    ensures option { IsOption result }
+    ensures words { argument_of (rule_of result) ≡ defaulted (codes "order") (codes "sequence") }
+{
+    option(alloc, "order", "WORD", "sequence", ORDER).value_parser(ORDERS.as_slice())
+}
+
+fn settle_option<'a>(alloc: Global) -> Arg<'a>
+    ensures option { IsOption result }
+    ensures words { argument_of (rule_of result) ≡ defaulted (codes "settle") (codes "later") }
+{
+    option(alloc, "settle", "WORD", "later", SETTLE).value_parser(RULES.as_slice())
+}
+
 fn limits_option<'a>(alloc: Global) -> Arg<'a>
-    ensures { IsOption result }
+    ensures option { IsOption result }
+    ensures words { argument_of (rule_of result) ≡ valued (codes "limits") 4 }
 {
     Arg::new(alloc, "limits")
         .long("limits")
@@ -268,17 +310,55 @@ fn limits_option<'a>(alloc: Global) -> Arg<'a>
         .value_parser(value_parser!(u64))
 }
 
+fn live_option<'a>(alloc: Global) -> Result<Arg<'a>, AllocError>
+    ensures option { IfOk result IsOption }
+    ensures words { IfOk result (λ r. argument_of (rule_of r) ≡ flag (codes "live")) }
+{
+    flag(alloc, "live", LIVE).conflicts_with("connections")
+}
+
+fn journal_option<'a>(alloc: Global) -> Result<Arg<'a>, AllocError>
+    ensures option { IfOk result IsOption }
+    ensures words { IfOk result (λ r. argument_of (rule_of r) ≡ flag (codes "journal")) }
+{
+    flag(alloc, "journal", JOURNAL).requires_arg("live")
+}
+
+fn times_option<'a>(alloc: Global) -> Result<Arg<'a>, AllocError>
+    ensures option { IfOk result IsOption }
+    ensures words { IfOk result (λ r. argument_of (rule_of r) ≡ flag (codes "receipt-times")) }
+{
+    flag(alloc, "receipt-times", TIMES).requires_arg("journal")
+}
+
 fn restore_option<'a>(alloc: Global) -> Result<Arg<'a>, AllocError>
-    ensures { IfOk result IsOption }
+    ensures option { IfOk result IsOption }
+    ensures words { IfOk result (λ r. argument_of (rule_of r) ≡ flag (codes "restore")) }
 {
     let option = flag(alloc, "restore", RESTORE).conflicts_with("stations")?;
     without_plan(option.requires_arg("live")?)
 }
 
+fn left_out_option<'a>(alloc: Global) -> Result<Arg<'a>, AllocError>
+    ensures option { IfOk result IsOption }
+    ensures words { IfOk result (λ r. argument_of (rule_of r) ≡ flag (codes "allow-left-out")) }
+{
+    let left_out = flag(alloc, "allow-left-out", LEFT_OUT).conflicts_with("stations")?;
+    left_out.requires_arg("restore")
+}
+
+fn log_option<'a>(alloc: Global) -> Result<Arg<'a>, AllocError>
+    ensures option { IfOk result IsOption }
+    ensures words { IfOk result (λ r. argument_of (rule_of r) ≡ flag (codes "log")) }
+{
+    flag(alloc, "log", LOG).requires_arg("live")
+}
+
 // The option, which does not go with those that say how sites and stations are.
 fn without_plan<'a>(option: Arg<'a>) -> Result<Arg<'a>, AllocError>
     requires { IsOption option }
-    ensures { IfOk result IsOption }
+    ensures option { IfOk result IsOption }
+    ensures words { IfOk result (λ r. argument_of (rule_of r) ≡ argument_of (rule_of option.entry)) }
 {
     option
         .conflicts_with("period")?
@@ -288,7 +368,8 @@ fn without_plan<'a>(option: Arg<'a>) -> Result<Arg<'a>, AllocError>
 }
 
 fn board_port_option<'a>(alloc: Global) -> Result<Arg<'a>, AllocError>
-    ensures { IfOk result IsOption }
+    ensures option { IfOk result IsOption }
+    ensures words { IfOk result (λ r. argument_of (rule_of r) ≡ valued (codes "board-port") 1) }
 {
     Arg::new(alloc, "board-port")
         .long("board-port")
@@ -301,7 +382,8 @@ fn board_port_option<'a>(alloc: Global) -> Result<Arg<'a>, AllocError>
 }
 
 fn station_words<'a>(alloc: Global) -> Result<Arg<'a>, AllocError>
-    ensures { IfOk result IsPlaced }
+    ensures placed { IfOk result IsPlaced }
+    ensures words { IfOk result (λ r. argument_of (rule_of r) ≡ placed (codes "stations")) }
 {
     Arg::new(alloc, "stations")
         .value_name("SITE/STATION")
@@ -313,18 +395,30 @@ fn station_words<'a>(alloc: Global) -> Result<Arg<'a>, AllocError>
 
 // The command `sim`.
 fn sim_command<'a>(alloc: Global) -> Result<Command<'a>, AllocError>
-    ensures { IfOk result IsCommand }
+    ensures command { IfOk result IsCommand }
+    ensures words { IfOk result (λ r. words_of (app_of r).top ≡ sim_words) }
 {
     let command = Command::new(alloc, "sim")
         .about("Plays simulated stations against a server in the same process")
         .after_help(SIM_EXAMPLE);
+    with_counts(alloc, command)
+}
+
+// The command with the numbers of stations and events.
+fn with_counts<'a>(alloc: Global, command: Command<'a>) -> Result<Command<'a>, AllocError>
+    requires takes { TakesOptions command }
+    requires words { words_of (app_of command).top ≡ sim_begun }
+    ensures command { IfOk result IsCommand }
+    ensures words { IfOk result (λ r. words_of (app_of r).top ≡ sim_words) }
+{
     let command = with_option(command, stations_option(alloc))?;
     let command = with_option(command, events_option(alloc))?;
     Ok(command)
 }
 
 fn stations_option<'a>(alloc: Global) -> Arg<'a>
-    ensures { IsOption result }
+    ensures option { IsOption result }
+    ensures words { argument_of (rule_of result) ≡ defaulted (codes "stations") (codes "2") }
 {
     let help = "How many stations, 1 to 64";
     option(alloc, "stations", "COUNT", "2", help).value_parser(value_parser!(u16).range(
@@ -333,7 +427,8 @@ fn stations_option<'a>(alloc: Global) -> Arg<'a>
 }
 
 fn events_option<'a>(alloc: Global) -> Arg<'a>
-    ensures { IsOption result }
+    ensures option { IsOption result }
+    ensures words { argument_of (rule_of result) ≡ defaulted (codes "events") (codes "3") }
 {
     let help = "How many events each sends, 2 to 64";
     option(alloc, "events", "COUNT", "3", help).value_parser(value_parser!(u32).range(

@@ -1,5 +1,5 @@
 -- An operator's answers, from the desk's answers.
-use Rattle.std.{proofs.Common.{◌≡◌, ℕ, zero, Bool, true, false, ◌⊎◌, inl, inr, List, [], ◌++◌, Option, Some, Result, Ok, Err, refl, ap, sym, subst, ◌∙◌, codes, slice_get}, specs.Prelude.OnOk}
+use Rattle.std.{proofs.Common.{◌≡◌, ℕ, zero, Bool, true, false, ◌⊎◌, inl, inr, List, [], ◌++◌, Option, Some, Result, Ok, Err, refl, ap, sym, subst, ◌∙◌, codes, slice_get}, specs.Prelude.{IfErr, OnOk}}
 use Rattle.board_report.specs.Texts.{total_text}
 use Rattle.energy_flow.specs.Flow.{Energy}
 use Rattle.ledger_model.{specs.declared.answer.Answer.Answer, specs.declared.answer.Answer.TheVariants.{Accepted, Repeat, Refused}, specs.declared.answer.Refusal.TheVariants.{ConflictingEvent, TooManyTransactions, EventsFull, ReadingsFull, NoSuchEvent, AlreadyVoided, NotVoided, ChangesExhausted}, specs.declared.command.Command.Command, specs.declared.command.Command.TheVariants.Deliver, specs.Content.{Content, empty_content}, specs.Limits.Bounds, specs.Step.{Reached, answer}, specs.World.Station}
@@ -9,7 +9,7 @@ use Rattle.script_lines.{specs.declared.script_line.TxList.TxList, specs.Texts.{
 use Rattle.site_book.specs.Book.{Known}
 use Rattle.site_desk.{specs.declared.roster.StationPlace.StationPlace, specs.Operator.{AreTotalsOfName, IsListingOfName}, specs.Roster.IsNamed, specs.Submit.{IsAnswered, Submitted}, specs.Cell.Held}
 use Rattle.station_ledger.specs.declared.listing.TxListing.{TxListing}
-use Rattle.station_link.specs.Answer.{IsGivenAt, OutcomeOfMeaning, Outcomes}
+use Rattle.station_link.specs.Answer.{IsGivenAt, IsSettled, OutcomeOfMeaning, Outcomes}
 use Rattle.transaction_event.{specs.Message.{Meaning, Event, Ready, Silence, message}, specs.Reply.event_reply_bytes, specs.Request.Request}
 use Rattle.running_desk.{specs.declared.operator.WhichTotals.WhichTotals, specs.declared.operator.WhichTotals.TheVariants.{Figures, Import, Export}, specs.Replied.{AreTotals, IsCommandLine, IsCommanded, IsExhausted, IsList, IsMessageLine, IsSent, IsStationOf, IsTotals, totals_line}}
 
@@ -70,12 +70,12 @@ totals_told Export places name f e x h =
     }
 
 -- the line of a command that was submitted is what a replay answers
-pub commanded : {M : Type 0} (gives : Command → Answer → Option Known → Option M → Type 0) (seen : Option M)
+pub commanded : {M : Type 0} (gives : Command → Answer → Option M → Type 0) (seen : Option M)
     (places : List StationPlace) (name : List ℕ) (p : Held) (command : Command) (p' : Held) (line : List ℕ)
     (named : IsNamed places name p.station)
     → IsCommandLine gives named.place p command p' line seen → IsCommanded places name command line
 commanded gives seen places name p command p' line named h =
-    elim (stepped named.place p command h.answer p' h.told h.submitted) [
+    elim (stepped named.place p command h.answer p' h.submitted.0 h.submitted.1) [
       | inl s ↦ inl (record {
         station = Some (with_content name named.place.limits s.content);
         stands = stands_with places name p.station named s.changes s.content s.reached;
@@ -113,29 +113,30 @@ silent_of Reply s script = refl
 silent_of Outcome s script = refl
 
 -- a meaning's answer, as a line, is what a replay answers
-replied : {M : Type 0} (detail : Detail) (gives : ℕ → StationPlace → Command → Answer → Option Known → Option M → Type 0) (seen : Option M)
+replied : {M : Type 0} (detail : Detail) (gives : ℕ → StationPlace → Command → Answer → Option M → Type 0) (seen : Option M)
     (places : List StationPlace) (name : List ℕ) (p : Held) (named : IsNamed places name p.station) (moment : ℕ) (m : Meaning)
-    (outcome : Option Answer) (text : Option (List ℕ)) (p' : Held) (told : Option Known) (line : List ℕ)
-    → OutcomeOfMeaning gives places p m outcome text p' told seen → line ≡ message_text detail outcome text
+    (outcome : Option Answer) (text : Option (List ℕ)) (p' : Held) (line : List ℕ)
+    → OutcomeOfMeaning gives places p m outcome text p' seen → line ≡ message_text detail outcome text
     → ((s : Station) × IsStationOf places name s × (line ≡ (by_detail detail m s (record start { moment = moment })).1)) ⊎ IsExhausted detail m line
-replied detail gives seen places name p named moment Silence outcome text p' told line h is =
+replied detail gives seen places name p named moment Silence outcome text p' line h is =
     let s = with_content name named.place.limits empty_content in
     inl (
       s,
       stands_with places name p.station named zero empty_content refl,
       is ∙ ap (message_text detail outcome) h.1.same ∙ silent_of detail s (record start { moment = moment }),
     )
-replied detail gives seen places name p named moment (Ready reply) outcome text p' told line h is =
+replied detail gives seen places name p named moment (Ready reply) outcome text p' line h is =
     let s = with_content name named.place.limits empty_content in
     inl (
       s,
       stands_with places name p.station named zero empty_content refl,
       is ∙ (λ i. message_text detail (h.0 i) (h.1.same i)) ∙ ready_of detail reply s (record start { moment = moment }),
     )
-replied detail gives seen places name p named moment (Event id request) outcome text p' told line h is =
+replied detail gives seen places name p named moment (Event id request) outcome text p' line h is =
     let d = h.0 in
     let said : line ≡ event_text detail d.answer (event_reply_bytes id request.token d.answer) = is ∙ (λ i. message_text detail (h.1 i) (d.reply i)) in
-    elim (stepped named.place p (Deliver request.key request.event) d.answer p' told (d.submitted.settled named.place named.there)) [
+    let settled = d.submitted.settled named.place named.there in
+    elim (stepped named.place p (Deliver request.key request.event) d.answer p' settled.0 settled.1) [
       | inl s ↦ inl (
         with_content name named.place.limits s.content,
         stands_with places name p.station named s.changes s.content s.reached,
@@ -146,39 +147,38 @@ replied detail gives seen places name p named moment (Event id request) outcome 
     ]
 
 -- words that were read
-sent_read : {M : Type 0} (detail : Detail) (gives : ℕ → StationPlace → Command → Answer → Option Known → Option M → Type 0) (seen : Option M)
+sent_read : {M : Type 0} (detail : Detail) (gives : ℕ → StationPlace → Command → Answer → Option M → Type 0) (seen : Option M)
     (places : List StationPlace) (name : List ℕ) (p : Held) (named : IsNamed places name p.station) (words : List ℕ) (moment : ℕ)
-    (outcome : Option Answer) (text : Option (List ℕ)) (p' : Held) (told : Option Known) (memory : Bool) (line : List ℕ)
-    → Outcomes gives places p words moment outcome text p' told seen memory → line ≡ message_text detail outcome text → IsSent detail places name words moment line
-sent_read detail gives seen places name p named words moment outcome text p' told true line h is =
+    (outcome : Option Answer) (text : Option (List ℕ)) (p' : Held) (memory : Bool) (line : List ℕ)
+    → Outcomes gives places p words moment outcome text p' seen memory → line ≡ message_text detail outcome text → IsSent detail places name words moment line
+sent_read detail gives seen places name p named words moment outcome text p' true line h is =
     inr (inr (record { reply = h.1.reply; tells = h.1.tells; is = is ∙ (λ i. message_text detail (h.0 i) (h.1.ready.same i)) }))
-sent_read detail gives seen places name p named words moment outcome text p' told false line h is =
-    elim (replied detail gives seen places name p named moment (message words moment) outcome text p' told line h is) [
+sent_read detail gives seen places name p named words moment outcome text p' false line h is =
+    elim (replied detail gives seen places name p named moment (message words moment) outcome text p' line h is) [
       | inl s ↦ inl (record { station = Some s.0; stands = s.1; is = s.2 ∙ ap (λ (x : Script × List ℕ). x.1) (sym (by_detail_is detail s.0 (record start { moment = moment }) words)) })
       | inr e ↦ inr (inl e)
     ]
 
 -- the line of a message that was answered is what a replay answers
-pub sent : {M : Type 0} (detail : Detail) (gives : ℕ → StationPlace → Command → Answer → Option Known → Option M → Type 0) (seen : Option M)
+pub sent : {M : Type 0} (detail : Detail) (gives : ℕ → StationPlace → Command → Answer → Option M → Type 0) (seen : Option M)
     (places : List StationPlace) (name : List ℕ) (p : Held) (named : IsNamed places name p.station) (words : List ℕ) (p' : Held)
     (line : List ℕ)
     → IsMessageLine detail gives places p words p' line seen → (moment : ℕ) × IsSent detail places name words moment line
 sent detail gives seen places name p named words p' line h =
-    (h.moment, sent_read detail gives seen places name p named words h.moment h.outcome h.text p' h.told h.memory line h.outcomes h.is)
+    (h.moment, sent_read detail gives seen places name p named words h.moment h.outcome h.text p' h.memory line h.outcomes h.is)
 
 -- the line of the answer to a command that was submitted, with what was seen
-pub submitted_line : {M : Type 0} (gives : ℕ → StationPlace → Command → Answer → Option Known → Option M → Type 0)
-    (seen : Option M) (places roster : List StationPlace) (p p' : Held) (command : Command) (a : Answer) (told : Option Known)
+pub submitted_line : {M : Type 0} (gives : ℕ → StationPlace → Command → Answer → Option M → Type 0)
+    (seen : Option M) (places roster : List StationPlace) (p p' : Held) (command : Command) (a : Answer)
     (before now : List ℕ)
     → places ≡ roster → before ≡ []
-    → ((at : StationPlace) → slice_get roster p.station ≡ Some at → Submitted at p command a p' told)
-    → IsGivenAt gives roster p.station command a told seen → now ≡ before ++ ended_line (answer_text a)
+    → ((at : StationPlace) → slice_get roster p.station ≡ Some at → IsSettled at p command a p')
+    → IsGivenAt gives roster p.station command a seen → now ≡ before ++ ended_line (answer_text a)
     → (at : StationPlace) → slice_get places p.station ≡ Some at → IsCommandLine (gives p.station at) at p command p' now seen
-submitted_line gives seen places roster p p' command a told before now same empty settled given put at there =
+submitted_line gives seen places roster p p' command a before now same empty settled given put at there =
     let here = ap (λ (x : List StationPlace). slice_get x p.station) (sym same) ∙ there in
     record {
       answer = a;
-      told = told;
       submitted = settled at here;
       given = given at here;
       is = put ∙ ap (λ (b : List ℕ). b ++ ended_line (answer_text a)) empty;
@@ -201,3 +201,8 @@ pub totals_line_told : {T E : Type 0} (r : Result T E) (asked : WhichTotals) (pl
     → OnOk r (now ≡ totals_line asked f e x) → OnOk r (IsTotals places name asked now)
 totals_line_told (Ok _) asked places name f e x now totals put = inl (subst (AreTotals places name asked) (sym put) (totals_told asked places name f e x totals))
 totals_line_told (Err _) asked places name f e x now totals put = put
+
+-- why a line has no answer
+pub error_told : {T E : Type 0} (r : Result T E) (P Q : E → Type 0) → ((e : E) → P e → Q e) → IfErr r P → IfErr r Q
+error_told (Ok _) P Q on h = h
+error_told (Err e) P Q on h = on e h

@@ -14,7 +14,7 @@ Stands None now done = ⊤
 Stands (Some all) None done = ⊥
 Stands (Some all) (Some rest) done = before_close all ≡ done ++ before_close rest
 
-module _ {M : Type 0} (gives : ℕ → StationPlace → Command → Answer → Option Known → Option M → Type 0)
+module _ {M : Type 0} (gives : ℕ → StationPlace → Command → Answer → Option M → Type 0)
     (shows : ℕ → List (List ℕ × Board) → M → Type 0) (sites : List SitePlan) (places : List StationPlace) where
   -- a line with its answer
   abbrev Own : Replied M → Type 0

@@ -1,5 +1,5 @@
 -- The answer to an operator's line: a replay's answer to the same line when it has the desk's stations.
-use Rattle.std.{specs.Prelude.{◌≡◌, ◌⊎◌, ℕ, Bool, false, List, [], Option, None, Some, codes}, specs.List.{list_any, position}, specs.Str.bytes_eq}
+use Rattle.std.{specs.Prelude.{◌≡◌, ◌⊎◌, ◌<◌, ℕ, ⊤, Bool, false, List, [], Option, None, Some, codes}, specs.List.{list_any, position}, specs.Str.bytes_eq}
 use Rattle.ledger_model.{specs.declared.answer.Answer.Answer, specs.declared.answer.Answer.TheVariants.Refused, specs.declared.answer.Refusal.TheVariants.ChangesExhausted, specs.declared.command.Command.Command, specs.declared.order.Order.Order, specs.declared.order.Order.TheVariants.Sequence, specs.Board.Board, specs.Periods.Periods, specs.Settling.default_periods, specs.Step.Reached, specs.World.Station}
 use Rattle.ledger_model.specs.declared.figures.Figures as figures
 use Rattle.board_report.{specs.Texts.{board_text, total_text}, specs.Running.running_site}
@@ -8,9 +8,8 @@ use Rattle.running_desk.{specs.declared.operator.WhichTotals.WhichTotals, specs.
 use Rattle.ocppj_frame.specs.Frame.{frame}
 use Rattle.script_ledgers.{specs.declared.detail.Detail.Detail, specs.declared.detail.Detail.TheVariants.{Outcome, Reply}, specs.Detail.{event_text, message_text, message_to, ready_text}, specs.Script.{asked_line, commanded_to, energy_answer, energy_line, export_answer, export_line, list_answer, mark_line, start, total_answer}}
 use Rattle.script_lines.{specs.declared.script_line.TxList.TxList, specs.declared.script_line.LineFault.TheVariants.{BadLine, DeclaredLate, UnknownSite, UnknownStation}, specs.LineMeaning.{LineMeaning, nothing, fails, sets_limits, declares, sets_period, sets_order, sets_settle, tells, sends, delivers, commands, asks_energy, asks_export, asks_total, asks_board, lists, asks_meaning, marks}, specs.Texts.{answer_text, ended_line, fault_line}}
-use Rattle.site_book.specs.Book.{Known}
-use Rattle.site_desk.{specs.declared.plan.SitePlan.SitePlan, specs.declared.roster.StationPlace.StationPlace, specs.Operator.AreBoardsAt, specs.Roster.IsNamed, specs.Submit.Submitted, specs.Cell.Held}
-use Rattle.station_link.specs.Answer.{IsGivenAt, Outcomes}
+use Rattle.site_desk.{specs.declared.plan.SitePlan.SitePlan, specs.declared.roster.StationPlace.StationPlace, specs.Operator.AreBoardsAt, specs.Roster.IsNamed, specs.Cell.Held}
+use Rattle.station_link.specs.Answer.{IsSettled, Outcomes}
 use Rattle.transaction_event.{specs.Message.{Meaning, Event, Ready, Silence, message}, specs.MessageMeaning.IsMemoryReply, specs.Reply.event_reply_bytes}
 
 -- A replay may have this station under the name: the desk has a station of the name with these
@@ -102,17 +101,16 @@ IsBoard shows sites places (Some site) text seen = IsShownBoard shows sites plac
 
 -- A command was submitted with a pass at a station of this place, the line has the answer to it,
 -- and what was seen belongs to that answer.
-pub record IsCommandLine {M : Type 0} (gives : Command → Answer → Option Known → Option M → Type 0) (at : StationPlace) (p : Held)
+pub record IsCommandLine {M : Type 0} (gives : Command → Answer → Option M → Type 0) (at : StationPlace) (p : Held)
     (command : Command) (p' : Held) (line : List ℕ) (seen : Option M) : Type 0 where
   pub answer : Answer
-  pub told : Option Known
-  pub submitted : Submitted at p command answer p' told
-  pub given : gives command answer told seen
+  pub submitted : IsSettled at p command answer p'
+  pub given : gives command answer seen
   pub is : line ≡ ended_line (answer_text answer)
 
 -- The command was submitted with a pass of the station of this name, and the text is the desk's answer to it; or there
 -- is no such station, and the text says so.
-abbrev pub IsSubmitted : {M : Type 0} → (ℕ → StationPlace → Command → Answer → Option Known → Option M → Type 0) → List StationPlace → List ℕ → Command → List ℕ → Option M → Type 0
+abbrev pub IsSubmitted : {M : Type 0} → (ℕ → StationPlace → Command → Answer → Option M → Type 0) → List StationPlace → List ℕ → Command → List ℕ → Option M → Type 0
 IsSubmitted gives places name command text seen =
     ((p p' : Held) × (named : IsNamed places name p.station) × IsCommandLine (gives p.station named.place) named.place p command p' text seen)
     ⊎ ((list_any (λ s. bytes_eq name s.name) places ≡ false) × (text ≡ fault_line UnknownStation))
@@ -142,18 +140,17 @@ IsSent detail places name words moment text =
 
 -- A station's words were answered with a pass at some moment, the line has that answer, and what was seen belongs to
 -- it.
-pub record IsMessageLine {M : Type 0} (detail : Detail) (gives : ℕ → StationPlace → Command → Answer → Option Known → Option M → Type 0)
+pub record IsMessageLine {M : Type 0} (detail : Detail) (gives : ℕ → StationPlace → Command → Answer → Option M → Type 0)
     (places : List StationPlace) (p : Held) (words : List ℕ) (p' : Held) (line : List ℕ) (seen : Option M) : Type 0 where
   pub moment : ℕ
   pub outcome : Option Answer
   pub text : Option (List ℕ)
-  pub told : Option Known
   pub memory : Bool
-  pub outcomes : Outcomes gives places p words moment outcome text p' told seen memory
+  pub outcomes : Outcomes gives places p words moment outcome text p' seen memory
   pub is : line ≡ message_text detail outcome text
 
 -- The words were answered with a pass of the station of this name; or there is no such station, and the text says so.
-abbrev pub IsMessaged : {M : Type 0} → Detail → (ℕ → StationPlace → Command → Answer → Option Known → Option M → Type 0) → List StationPlace → List ℕ → List ℕ → List ℕ → Option M → Type 0
+abbrev pub IsMessaged : {M : Type 0} → Detail → (ℕ → StationPlace → Command → Answer → Option M → Type 0) → List StationPlace → List ℕ → List ℕ → List ℕ → Option M → Type 0
 IsMessaged detail gives places name words text seen =
     ((p p' : Held) × IsNamed places name p.station × IsMessageLine detail gives places p words p' text seen)
     ⊎ ((list_any (λ s. bytes_eq name s.name) places ≡ false) × (text ≡ fault_line UnknownStation))
@@ -161,7 +158,7 @@ IsMessaged detail gives places name words text seen =
 -- The answer to an operator's line at a desk of these sites and stations, by what the line says,
 -- and what was seen of the desk's journal then: `gives` with an answer to a command, `shows` with a
 -- site's boards. Moments come from the clock, so a line that gives one is at fault.
-abbrev pub IsReply : {M : Type 0} → (ℕ → StationPlace → Command → Answer → Option Known → Option M → Type 0)
+abbrev pub IsReply : {M : Type 0} → (ℕ → StationPlace → Command → Answer → Option M → Type 0)
     → (ℕ → List (List ℕ × Board) → M → Type 0) → List SitePlan → List StationPlace → LineMeaning → List ℕ → Option M → Type 0
 IsReply gives shows sites places nothing text seen = text ≡ []
 IsReply gives shows sites places (fails fault) text seen = text ≡ fault_line fault
@@ -182,7 +179,20 @@ IsReply gives shows sites places (lists what name tx) text seen = IsList places 
 IsReply gives shows sites places (asks_meaning words) text seen = (moment : ℕ) × (text ≡ asked_line (message words moment))
 IsReply gives shows sites places (marks word) text seen = text ≡ mark_line word
 
--- An operator's line gets this answer, or `fault OutOfMemory`.
-abbrev pub IsReplyOrMemory : {M : Type 0} → (ℕ → StationPlace → Command → Answer → Option Known → Option M → Type 0)
+-- Room for so many bytes is less than the answer to a message or a command may need, and one is carried out only with
+-- that room; or no station has the name.
+abbrev pub LacksRoom : List StationPlace → List ℕ → ℕ → Type 0
+LacksRoom places name room = (room < 542) ⊎ (list_any (λ s. bytes_eq name s.name) places ≡ false)
+
+-- A line may find no memory for its answer with room for so many bytes: a message or a command only if it was not
+-- carried out.
+abbrev pub MayLackMemory : List StationPlace → LineMeaning → ℕ → Type 0
+MayLackMemory places (sends name words) room = LacksRoom places name room
+MayLackMemory places (delivers name words) room = LacksRoom places name room
+MayLackMemory places (commands name command) room = LacksRoom places name room
+MayLackMemory places meaning room = ⊤
+
+-- An operator's line gets this answer, or `fault OutOfMemory`; with that nothing was seen of the desk's journal.
+abbrev pub IsReplyOrMemory : {M : Type 0} → (ℕ → StationPlace → Command → Answer → Option M → Type 0)
     → (ℕ → List (List ℕ × Board) → M → Type 0) → List SitePlan → List StationPlace → LineMeaning → List ℕ → Option M → Type 0
-IsReplyOrMemory gives shows sites places meaning text seen = IsReply gives shows sites places meaning text seen ⊎ (text ≡ ended_line (codes "fault OutOfMemory"))
+IsReplyOrMemory gives shows sites places meaning text seen = IsReply gives shows sites places meaning text seen ⊎ ((text ≡ ended_line (codes "fault OutOfMemory")) × (seen ≡ None))

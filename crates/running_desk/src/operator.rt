@@ -1,8 +1,8 @@
 //! An operator's lines, which are answered while stations are served.
-ghost use Rattle.std.{specs.Prelude.{◌≡◌, ℕ, List, [], ◌++◌, IfOk, OnOk, Some, slice_get}, specs.List.position, specs.Str.bytes_eq};
+ghost use Rattle.std.{specs.Prelude.{◌≡◌, ◌≤◌, ◌<◌, ◌⊎◌, ℕ, List, [], ◌++◌, IfErr, IfOk, OnErr, OnOk, Some, slice_get, vec_capacity}, specs.List.position, specs.Str.bytes_eq};
 ghost use Rattle.script_lines.{specs.LineMeaning.{commands, line_meaning}, specs.Lines.line_bytes, specs.declared.script_line.LineFault.LineFault, specs.Texts.fault_line};
 ghost use Rattle.site_desk.{specs.declared.roster.StationPlace.StationPlace, specs.Roster.IsNamed};
-ghost use Rattle.running_desk.{specs.Replied.{IsBoard, IsCommandLine, IsCommanded, IsList, IsMessageLine, IsMessaged, IsReply, IsSent, IsSubmitted, IsTotals, totals_line}, specs.Ordered.{ends, lines_in}, specs.Replies.{AddsReplies, AddsReply}};
+ghost use Rattle.running_desk.{specs.declared.operator.Unanswered.Unanswered, specs.Replied.{IsBoard, IsCommandLine, IsCommanded, IsList, IsMessageLine, IsMessaged, IsReply, IsSent, IsSubmitted, IsTotals, LacksRoom, MayLackMemory, totals_line}, specs.Ordered.{ends, lines_in}, specs.Replies.{AddsReplies, AddsReply}};
 ghost use Rattle.script_ledgers.specs.Script.{asked_line};
 ghost use Rattle.transaction_event.specs.Message.{message};
 ghost use Rattle.station_link.{specs.Attended.if_seen, specs.declared.ending.Why.Why};
@@ -40,8 +40,25 @@ const MOST_ANSWER: usize = 542;
 // meets.
 const TORN: &str = "fault Torn";
 
+// Why a line has no answer.
+#[derive(Clone, Copy)]
+enum Unanswered {
+    // There was no memory for its answer. A message and a command then have changed nothing.
+    NoMemory,
+    // It was carried out, and there was no memory for its answer, which no run meets: room is made before.
+    Lost,
+}
+
+impl From<AllocError> for Unanswered {
+    ghost from_gives = { λ _ r. r ≡ Unanswered.NoMemory };
+
+    fn from(_error: AllocError) -> Unanswered {
+        Unanswered::NoMemory
+    }
+}
+
 // How a line was answered: with what was seen of the desk's journal, if anything was.
-type Answered<M> = Result<Option<M>, AllocError>;
+type Answered<M> = Result<Option<M>, Unanswered>;
 
 impl<S: Serves, R: Threads + Wait + Clock> Running<'_, S, R> {
     /// Answers line after line of the input until it ends, a line says `close`, or no change is accepted any more, which is
@@ -86,7 +103,8 @@ impl<S: Serves, R: Threads + Wait + Clock> Running<'_, S, R> {
         let mut reply = Vec::new(self.alloc);
         let (text, seen) = match self.answer_line(line, &mut reply) {
             Ok(seen) => (reply.as_slice(), seen),
-            Err(_) => (NO_MEMORY, None),
+            Err(Unanswered::NoMemory) => (NO_MEMORY, None),
+            Err(Unanswered::Lost) => return Err(ServiceFault::OutOfMemory),
         };
         write_out(writer, text)?;
         Ok(seen)
@@ -95,10 +113,13 @@ impl<S: Serves, R: Threads + Wait + Clock> Running<'_, S, R> {
     // Appends the answer to an operator's line, which is that of a script's line after its declarations. Moments come
     // from the clock, so a line that gives one is `BadLine`.
     fn answer_line(&self, line: Option<&[u8]>, reply: &mut Vec<u8>) -> Answered<S::Seen>
-        requires { reply.old.items ≡ [] }
-        ensures { IfOk result
+        requires empty { reply.old.items ≡ [] }
+        requires none { vec_capacity reply.old ≡ 0 }
+        ensures answer { IfOk result
             (λ seen. IsReply S.gives (S.shows self.now.serves.now) self.now.plan.now.sites.items self.now.desk.now.stations
             (line_meaning (line_bytes line.entry)) reply.new.items seen) }
+        ensures memory { IfErr result (λ why. why ≡ Unanswered.NoMemory
+            → MayLackMemory self.now.desk.now.stations (line_meaning (line_bytes line.entry)) (vec_capacity reply.new)) }
     {
         match read_line(line) {
             ScriptLine::Sends(name, text) => {
@@ -137,9 +158,11 @@ impl<S: Serves, R: Threads + Wait + Clock> Running<'_, S, R> {
         detail: Detail,
         reply: &mut Vec<u8>,
     ) -> Answered<S::Seen>
-        requires { reply.old.items ≡ [] }
+        requires empty { reply.old.items ≡ [] }
+        requires none { vec_capacity reply.old ≡ 0 }
         ensures sent { OnOk result ((moment : ℕ) × IsSent detail self.now.desk.now.stations name.now text.now moment reply.new.items) }
         ensures messaged { IfOk result (λ seen. IsMessaged detail S.gives self.now.desk.now.stations name.now text.now reply.new.items seen) }
+        ensures memory { IfErr result (λ why. why ≡ Unanswered.NoMemory → LacksRoom self.now.desk.now.stations name.now (vec_capacity reply.new)) }
     {
         match self.pass_of(name) {
             Ok(mut pass) => {
@@ -147,14 +170,14 @@ impl<S: Serves, R: Threads + Wait + Clock> Running<'_, S, R> {
                 let _lost = self.lay(pass);
                 delivered
             }
-            Err(fault) => {
-                put_pass_fault(reply, fault)?;
-                Ok(None)
-            }
+            Err(fault) => match put_pass_fault(reply, fault) {
+                Ok(()) => Ok(None),
+                Err(_) => Err(Unanswered::NoMemory),
+            },
         }
     }
 
-    // Delivers a message with a pass, and appends the text of its line.
+    // Makes room, delivers a message with a pass, and appends the text of its line.
     fn deliver(
         &self,
         pass: &mut Pass,
@@ -163,14 +186,35 @@ impl<S: Serves, R: Threads + Wait + Clock> Running<'_, S, R> {
         reply: &mut Vec<u8>,
     ) -> Answered<S::Seen>
         requires { reply.old.items ≡ [] }
-        ensures { IfOk result (λ seen. IsMessageLine detail S.gives self.now.desk.now.stations pass.old text.now pass.new reply.new.items seen) }
+        ensures line { IfOk result (λ seen. IsMessageLine detail S.gives self.now.desk.now.stations pass.old text.now pass.new reply.new.items seen) }
+        ensures memory { IfErr result (λ why. why ≡ Unanswered.NoMemory → vec_capacity reply.new < MOST_ANSWER) }
     {
-        reply.reserve(MOST_ANSWER)?;
+        match make_room(reply) {
+            Ok(()) => self.take_text(pass, text, detail, reply),
+            Err(_) => Err(Unanswered::NoMemory),
+        }
+    }
+
+    // Delivers a message with a pass, and appends the text of its line, for which there is room.
+    fn take_text(
+        &self,
+        pass: &mut Pass,
+        text: &str,
+        detail: Detail,
+        reply: &mut Vec<u8>,
+    ) -> Answered<S::Seen>
+        requires empty { reply.old.items ≡ [] }
+        requires room { MOST_ANSWER ≤ vec_capacity reply.old }
+        ensures line { IfOk result (λ seen. IsMessageLine detail S.gives self.now.desk.now.stations pass.old text.now pass.new reply.new.items seen) }
+        ensures lost { IfErr result (λ why. why ≡ Unanswered.Lost) }
+    {
         let now = present(&mut SystemMoments { rt: self.rt });
         let answered = answer_text(self.serves, self.rt, self.alloc, pass, text, now, &NoGate);
         let text = answered.text.as_ref().map(|text| text.as_str());
-        put_message_text(reply, detail, answered.outcome, text)?;
-        Ok(answered.seen)
+        match put_message_text(reply, detail, answered.outcome, text) {
+            Ok(()) => Ok(answered.seen),
+            Err(_) => Err(Unanswered::Lost),
+        }
     }
 
     // Appends what a text asks for at the clock's moment.
@@ -192,8 +236,10 @@ impl<S: Serves, R: Threads + Wait + Clock> Running<'_, S, R> {
     ) -> Answered<S::Seen>
         requires line { line_meaning (line_bytes line) ≡ commands name.now what }
         requires empty { reply.old.items ≡ [] }
+        requires none { vec_capacity reply.old ≡ 0 }
         ensures answer { OnOk result (IsCommanded self.now.desk.now.stations name.now what reply.new.items) }
         ensures submitted { IfOk result (λ seen. IsSubmitted S.gives self.now.desk.now.stations name.now what reply.new.items seen) }
+        ensures memory { IfErr result (λ why. why ≡ Unanswered.NoMemory → LacksRoom self.now.desk.now.stations name.now (vec_capacity reply.new)) }
     {
         match self.pass_of(name) {
             Ok(mut pass) => {
@@ -201,14 +247,14 @@ impl<S: Serves, R: Threads + Wait + Clock> Running<'_, S, R> {
                 let _lost = self.lay(pass);
                 submitted
             }
-            Err(fault) => {
-                put_pass_fault(reply, fault)?;
-                Ok(None)
-            }
+            Err(fault) => match put_pass_fault(reply, fault) {
+                Ok(()) => Ok(None),
+                Err(_) => Err(Unanswered::NoMemory),
+            },
         }
     }
 
-    // Submits an operator's command with a pass of the station of this name, and appends its answer.
+    // Makes room, submits an operator's command with a pass of the station of this name, and appends its answer.
     fn submit(
         &self,
         pass: &mut Pass,
@@ -220,13 +266,39 @@ impl<S: Serves, R: Threads + Wait + Clock> Running<'_, S, R> {
         requires named { IsNamed self.now.desk.now.stations name.now pass.old.station }
         requires line { line_meaning (line_bytes line) ≡ commands name.now what }
         requires empty { reply.old.items ≡ [] }
-        ensures { IfOk result (λ seen. (at : StationPlace) → slice_get self.now.desk.now.stations pass.old.station ≡ Some at
+        ensures line { IfOk result (λ seen. (at : StationPlace) → slice_get self.now.desk.now.stations pass.old.station ≡ Some at
             → IsCommandLine (S.gives pass.old.station at) at pass.old what pass.new reply.new.items seen) }
+        ensures memory { IfErr result (λ why. why ≡ Unanswered.NoMemory → vec_capacity reply.new < MOST_ANSWER) }
     {
-        reply.reserve(MOST_ANSWER)?;
-        let (answer, _told, seen) = self.serves.command(self.rt, pass, name, what, line);
-        put_answer(reply, answer)?;
-        Ok(seen)
+        match make_room(reply) {
+            Ok(()) => self.take_command(pass, name, what, line, reply),
+            Err(_) => Err(Unanswered::NoMemory),
+        }
+    }
+
+    // Submits an operator's command with a pass of the station of this name, and appends its answer, for which there is
+    // room.
+    fn take_command(
+        &self,
+        pass: &mut Pass,
+        name: &Name,
+        what: Command,
+        line: Option<&[u8]>,
+        reply: &mut Vec<u8>,
+    ) -> Answered<S::Seen>
+        requires named { IsNamed self.now.desk.now.stations name.now pass.old.station }
+        requires line { line_meaning (line_bytes line) ≡ commands name.now what }
+        requires empty { reply.old.items ≡ [] }
+        requires room { MOST_ANSWER ≤ vec_capacity reply.old }
+        ensures line { IfOk result (λ seen. (at : StationPlace) → slice_get self.now.desk.now.stations pass.old.station ≡ Some at
+            → IsCommandLine (S.gives pass.old.station at) at pass.old what pass.new reply.new.items seen) }
+        ensures lost { IfErr result (λ why. why ≡ Unanswered.Lost) }
+    {
+        let (answer, seen) = self.serves.command(self.rt, pass, name, what, line);
+        match put_answer(reply, answer) {
+            Ok(()) => Ok(seen),
+            Err(_) => Err(Unanswered::Lost),
+        }
     }
 
     // Appends totals of the station of this name.
@@ -284,7 +356,7 @@ impl<S: Serves, R: Threads + Wait + Clock> Running<'_, S, R> {
                 *reply = text;
                 Ok(Some(seen))
             }
-            Err(BoardFault::OutOfMemory) => Err(AllocError),
+            Err(BoardFault::OutOfMemory) => Err(Unanswered::NoMemory),
             Err(BoardFault::Torn | BoardFault::UnknownStation) => {
                 put_line(reply, TORN)?;
                 Ok(None)
@@ -317,10 +389,21 @@ fn is_last(came: Came, line: Option<&[u8]>) -> bool
     }
 }
 
+// Makes room for the answer to a message or a command.
+fn make_room(reply: &mut Vec<u8>) -> Result<(), AllocError>
+    requires { reply.old.items ≡ [] }
+    ensures items { reply.new.items ≡ reply.old.items }
+    ensures room { OnOk result (MOST_ANSWER ≤ vec_capacity reply.new) }
+    ensures full { OnErr result (vec_capacity reply.new < MOST_ANSWER) }
+{
+    reply.reserve(MOST_ANSWER)
+}
+
 // Appends why there was no pass.
 fn put_pass_fault(reply: &mut Vec<u8>, fault: Why) -> Result<(), AllocError>
     requires { reply.old.items ≡ [] }
-    ensures { OnOk result ((fault ≡ Why.UnknownStation) × (reply.new.items ≡ fault_line LineFault.UnknownStation)) }
+    ensures unknown { OnOk result ((fault ≡ Why.UnknownStation) × (reply.new.items ≡ fault_line LineFault.UnknownStation)) }
+    ensures same { OnErr result ((fault ≡ Why.UnknownStation) ⊎ (vec_capacity reply.new ≡ vec_capacity reply.old)) }
 {
     match fault {
         Why::UnknownStation => put_fault(reply, LineFault::UnknownStation),

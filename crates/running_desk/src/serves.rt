@@ -3,7 +3,6 @@ ghost use Rattle.std.specs.Prelude.{◌≡◌, Some, slice_get};
 
 use energy_flow::Work;
 use ledger_model::{Answer, Command, Figures, Name};
-use site_book::Told;
 use site_desk::{BoardFault, Desk, HasCell, Pass};
 use station_ledger::StationBoard;
 use station_link::Delivers;
@@ -30,9 +29,9 @@ pub trait Serves: Delivers + MayBreak {
     ghost use Rattle.std.specs.Prelude.{◌≡◌, ℕ, List, Some, IfOk, map, slice_get};
     ghost use Rattle.ledger_model.specs.Board.{Board, sum_of_figures};
     ghost use Rattle.script_lines.{specs.LineMeaning.{commands, line_meaning}, specs.Lines.line_bytes};
-    ghost use Rattle.site_desk.{specs.declared.roster.StationPlace.StationPlace, specs.Roster.{IsNamed, Roster}, specs.Operator.{AreBoardsAt, site_looks}, specs.Submit.Submitted};
+    ghost use Rattle.site_desk.{specs.declared.roster.StationPlace.StationPlace, specs.Roster.{IsNamed, Roster}, specs.Operator.{AreBoardsAt, site_looks}};
     ghost use Rattle.station_ledger.specs.Quarters.{IsWork};
-    ghost use Rattle.station_link.specs.Answer.{IsGivenAt};
+    ghost use Rattle.station_link.specs.Answer.{IsGivenAt, IsSettled};
 
     ghost roster: { Self → Roster };
 
@@ -55,11 +54,11 @@ pub trait Serves: Delivers + MayBreak {
         name: &Name,
         what: Command,
         line: Option<&[u8]>,
-    ) -> (Answer, Option<Told<Self::Names>>, Option<Self::Seen>)
+    ) -> (Answer, Option<Self::Seen>)
         requires named { IsNamed (roster self.now).stations name.now pass.old.station }
         requires line { line_meaning (line_bytes line) ≡ commands name.now what }
-        ensures settled { (at : StationPlace) → slice_get (roster self.now).stations pass.old.station ≡ Some at → Submitted at pass.old what result.0 pass.new result.1 }
-        ensures given { IsGivenAt Self.gives (roster self.now).stations pass.old.station what result.0 result.1 result.2 };
+        ensures settled { (at : StationPlace) → slice_get (roster self.now).stations pass.old.station ≡ Some at → IsSettled at pass.old what result.0 pass.new }
+        ensures given { IsGivenAt Self.gives (roster self.now).stations pass.old.station what result.0 result.1 };
 
     /// The boards of the stations of the site of this number, as [`Desk::site_boards`](site_desk::Desk::site_boards)
     /// gives them, with the looks that they take.

@@ -1,76 +1,181 @@
 -- Texts of a session, one after the other.
-use Rattle.std.{proofs.Common.{◌≡◌, ℕ, Bool, true, false, List, [], ◌∷◌, ◌++◌, Option, None, Some, refl, sym, subst, ap, ◌∙◌, append-nil, append_assoc, slice_get}, specs.Prelude.All, proofs.lemmas.List.Elements.{All-append, All-cons, All-nil}}
+use Rattle.std.{proofs.Common.{◌≡◌, ◌+◌, ℕ, suc, Bool, true, false, ◌⊎◌, inl, inr, List, [], ◌∷◌, ◌++◌, length, Option, Some, None, Result, Ok, Err, refl, sym, subst, ap, ◌∙◌, arith, cond}, proofs.lemmas.Bool.false≢true, specs.Prelude.is_some}
 use Rattle.ledger_model.{specs.declared.answer.Answer.Answer, specs.declared.command.Command.Command}
-use Rattle.site_book.specs.Book.{Known}
 use Rattle.site_desk.{specs.declared.roster.StationPlace.StationPlace, specs.Cell.Held}
-use Rattle.station_link.{specs.Answer.{Answers, AnswersMeaning, IsDelivered, IsNextPass}, specs.Attended.{AreAnswered, IsAnswered, IsAttended, Text, if_seen, seen_with}}
-use Rattle.transaction_event.{specs.Message.{Meaning, Event, Ready, Silence, message}, specs.Request.Request}
+use Rattle.station_link.{specs.declared.ending.Why.Why, specs.declared.ending.Ending.Ending, specs.Answer.reply_of, specs.Attended.{AreTurns, IsAttended, IsIdle, IsStill, IsTurn, IsUnsent, Point, Takes}, specs.Exchange.{AreQuiet, Comes, IsNoText, IsQuiet, Receives, Waits}}
+use Rattle.tungstenite.{specs.declared.error.Error.Error, specs.declared.message.Message.Message, specs.Socket.{Flushed, Reads, Socket, has_kind}}
+use Rattle.tungstenite.specs.declared.message.Message.TheVariants as kind
 
-module _ {M : Type 0} (gives : ℕ → StationPlace → Command → Answer → Option Known → Option M → Type 0) (stations : List StationPlace) where
-  -- what came with the texts of two lists
-  seen_append : (ts us : List (Text M)) → seen_with (ts ++ us) ≡ seen_with ts ++ seen_with us
-  seen_append [] us = refl
-  seen_append (t ∷ ts) us = ap (λ l. if_seen t.seen ++ l) (seen_append ts us) ∙ sym (append_assoc (if_seen t.seen) (seen_with ts) (seen_with us))
+-- a reply that is there
+pub is_reply : (has : Bool) (text : List ℕ) → has ≡ true → is_some (reply_of has text) ≡ true
+is_reply true text e = refl
+is_reply false text e = e
 
-  -- texts behind others
-  answered_append : (p p' p'' : Held) (ts us : List (Text M)) → AreAnswered gives stations p ts p' → AreAnswered gives stations p' us p'' → AreAnswered gives stations p (ts ++ us) p''
-  answered_append p p' p'' [] us h k = subst (λ q. AreAnswered gives stations q us p'') h k
-  answered_append p p' p'' (t ∷ ts) us h k = (h.0, h.1, answered_append t.after p' p'' ts us h.2 k)
+module _ {S : Type 0} (remaining contents : S → Option (List ℕ)) where
+  -- some waiting and then more
+  quiet_then : (s : Socket S) (xs : List (Socket S)) (t : Socket S) (ys : List (Socket S)) (u : Socket S)
+      → AreQuiet remaining contents s xs t → AreQuiet remaining contents t ys u → AreQuiet remaining contents s (xs ++ ys) u
+  quiet_then s [] t ys u h k = subst (λ x. AreQuiet remaining contents x ys u) h k
+  quiet_then s (x ∷ xs) t ys u h k = (h.0, quiet_then x xs t ys u h.1 k)
+
+  pub waits_then : (s t u : Socket S) → Waits remaining contents s t → Waits remaining contents t u → Waits remaining contents s u
+  waits_then s t u h k = (h.0 ++ k.0, quiet_then s h.0 t k.0 u h.1 k.1)
+
+  one_quiet : (s t : Socket S) → IsQuiet remaining contents s t → Waits remaining contents s t
+  one_quiet s t h = (t ∷ [], (h, refl))
+
+  -- no waiting yet
+  pub waits_not : (s : Socket S) → Waits remaining contents s s
+  waits_not s = ([], refl)
+
+  -- a flush
+  pub flushes : (s t : Socket S) → Flushed contents s t → Waits remaining contents s t
+  flushes s t h = one_quiet s t (inl h)
+
+  -- a read that gave no text
+  pub reads_no_text : (s t : Socket S) (r : Result Message Error) → IsNoText r → Reads remaining s t r → Waits remaining contents s t
+  reads_no_text s t r no_text h = one_quiet s t (inr (r, no_text, h))
+
+  -- a flush, and a read that gave no text
+  pub waits_more : (s t u v : Socket S) (r : Result Message Error) → Waits remaining contents s t → Flushed contents t u → IsNoText r → Reads remaining u v r → Waits remaining contents s v
+  waits_more s t u v r before flushed no_text h = waits_then s t v before (waits_then t u v (flushes t u flushed) (reads_no_text u v r no_text h))
+
+  -- a message behind a flush
+  pub comes_behind : (s t u v : Socket S) (message : Message) → Waits remaining contents s t → Flushed contents t u → Reads remaining u v (Ok message) → Comes remaining contents s message v
+  comes_behind s t u v message before flushed h = record { ready = u; waited = waits_then s t u before (flushes t u flushed); read = h }
+
+  -- a message that is no text
+  other_comes : (s t : Socket S) (message : Message) → has_kind 0 message ≡ false → Comes remaining contents s message t → Waits remaining contents s t
+  other_comes s t message other h = waits_then s h.ready t h.waited (reads_no_text h.ready t (Ok message) other h.read)
+
+  -- a text behind some waiting
+  received_behind : (s t : Socket S) (words : List ℕ) (u : Socket S) → Waits remaining contents s t → Receives remaining contents t words u → Receives remaining contents s words u
+  received_behind s t words u before h = record {
+    message = h.message;
+    is = h.is;
+    comes = record { ready = h.comes.ready; waited = waits_then s t h.comes.ready before h.comes.waited; read = h.comes.read };
+  }
+
+module _ {M C S : Type 0} (gives : ℕ → StationPlace → Command → Answer → Option M → Type 0) (reads : C → Option ℕ → C → Type 0)
+    (remaining contents : S → Option (List ℕ)) (stations : List StationPlace) where
+  abbrev Turn : Point C S → Point C S → Type 0
+  Turn a b = IsTurn gives reads remaining contents stations a b
+
+  abbrev Turns : Point C S → List (Point C S) → Point C S → Type 0
+  Turns a ts b = AreTurns gives reads remaining contents stations a ts b
+
+  still_then : (a b c : Point C S) → IsStill remaining contents a b → IsStill remaining contents b c → IsStill remaining contents a c
+  still_then a b c h k = record { waited = waits_then remaining contents a.socket b.socket c.socket h.waited k.waited; pass = k.pass ∙ h.pass; clock = k.clock ∙ h.clock }
+
+  not_yet : (a : Point C S) → IsStill remaining contents a a
+  not_yet a = record { waited = waits_not remaining contents a.socket; pass = refl; clock = refl }
+
+  -- a turn behind some waiting
+  turn_behind : (a b c : Point C S) → IsStill remaining contents a b → Turn b c → Turn a c
+  turn_behind a b c h k =
+      let at_socket : Turn (record { pass = b.pass; clock = b.clock; socket = a.socket }) c = record {
+        words = k.words;
+        read = k.read;
+        received = received_behind remaining contents a.socket b.socket k.words k.read h.waited k.received;
+        taken = k.taken;
+        sent = k.sent;
+      } in
+      subst (λ (x : C). Turn (record { pass = a.pass; clock = x; socket = a.socket }) c) h.clock
+      (subst (λ (q : Held). Turn (record { pass = q; clock = b.clock; socket = a.socket }) c) h.pass at_socket)
+
+  turns_then_still : (a : Point C S) (ts : List (Point C S)) (b c : Point C S) → Turns a ts b → IsStill remaining contents b c → Turns a ts c
+  turns_then_still a [] b c h k = still_then a b c h k
+  turns_then_still a (t ∷ ts) b c h k = (h.0, turns_then_still t ts b c h.1 k)
+
+  turns_then_turn : (a : Point C S) (ts : List (Point C S)) (b c : Point C S) → Turns a ts b → Turn b c → Turns a (ts ++ c ∷ []) c
+  turns_then_turn a [] b c h k = (turn_behind a b c h k, not_yet c)
+  turns_then_turn a (t ∷ ts) b c h k = (h.0, turns_then_turn t ts b c h.1 k)
+
+  -- the texts so far
+  pub record SoFar (first now : Point C S) (texts : ℕ) : Type 0 where
+    pub each : List (Point C S)
+    pub turns : Turns first each now
+    pub count : texts ≡ length each
 
   -- no text yet
-  pub none_yet : (p : Held) (before now : List M) → now ≡ before → IsAttended gives stations p p before now
-  none_yet p before now is = record { texts = []; answered = refl; all = is ∙ sym (append-nil before) }
+  pub none_yet : (a : Point C S) (texts : ℕ) → texts ≡ 0 → SoFar a a texts
+  none_yet a texts is = record { each = []; turns = not_yet a; count = is }
 
-  -- one text
-  pub one_text : (p p' : Held) (words : List ℕ) (moment : ℕ) (reply : Option (List ℕ)) (told : Option Known) (seen : Option M) (memory : Bool) (before now : List M)
-      → Answers gives stations p words moment reply p' told seen memory → IsNextPass p p' → now ≡ before ++ if_seen seen → IsAttended gives stations p p' before now
-  one_text p p' words moment reply told seen memory before now answers next is = record {
-    texts = record { words = words; moment = moment; reply = reply; after = p'; told = told; seen = seen; memory = memory } ∷ [];
-    answered = (answers, next, refl);
-    all = is ∙ ap (λ l. before ++ l) (sym (append-nil (if_seen seen)));
+  length_more : (ts : List (Point C S)) (c : Point C S) → length (ts ++ c ∷ []) ≡ length ts + 1
+  length_more [] c = refl
+  length_more (t ∷ ts) c = ap suc (length_more ts c) ∙ omega arith
+
+  -- a message that changed nothing
+  idle : (a b c : Point C S) (s : Socket S) (n : ℕ) (message : Message) → has_kind 0 message ≡ false → SoFar a b n → Comes remaining contents b.socket message s
+      → IsStill remaining contents (record b { socket = s }) c → SoFar a c n
+  idle a b c s n message other so_far comes still = record {
+    each = so_far.each;
+    turns = turns_then_still a so_far.each b c so_far.turns
+        (record { waited = waits_then remaining contents b.socket s c.socket (other_comes remaining contents b.socket s message other comes) still.waited; pass = still.pass; clock = still.clock });
+    count = so_far.count;
   }
 
-  -- some texts and then more
-  pub and_then : (p p' p'' : Held) (a b c : List M) → IsAttended gives stations p p' a b → IsAttended gives stations p' p'' b c → IsAttended gives stations p p'' a c
-  and_then p p' p'' a b c h k = record {
-    texts = h.texts ++ k.texts;
-    answered = answered_append p p' p'' h.texts k.texts h.answered k.answered;
-    all = k.all ∙ ap (λ l. l ++ seen_with k.texts) h.all ∙ append_assoc a (seen_with h.texts) (seen_with k.texts) ∙ ap (λ l. a ++ l) (sym (seen_append h.texts k.texts));
+  -- one text more
+  text_more : (a b c : Point C S) (s : Socket S) (n : ℕ) (message : Message) → SoFar a b n → Comes remaining contents b.socket message s
+      → Takes gives reads remaining contents stations message (Ok true) (record b { socket = s }) c → SoFar a c (n + 1)
+  text_more a b c s n (kind.Text words) so_far comes taken = record {
+    each = so_far.each ++ c ∷ [];
+    turns = turns_then_turn a so_far.each b c so_far.turns
+        (record { words = words; read = s; received = record { message = kind.Text words; is = refl; comes = comes }; taken = taken.1.0; sent = taken.1.1 });
+    count = ap (λ k. k + 1) so_far.count ∙ sym (length_more so_far.each c);
   }
+  text_more a b c s n (kind.Binary bytes) so_far comes taken = absurd (false≢true (sym taken.0))
+  text_more a b c s n (kind.Ping bytes) so_far comes taken = absurd (false≢true (sym taken.0))
+  text_more a b c s n (kind.Pong bytes) so_far comes taken = absurd (false≢true (sym taken.0))
+  text_more a b c s n (kind.Close frame) so_far comes taken = absurd (false≢true (sym taken.0))
 
-  -- nothing came with an answer
-  none_came : (seen : Option M) → seen ≡ None → All (IsAnswered gives) (if_seen seen)
-  none_came seen nothing = subst (λ o. All (IsAnswered gives) (if_seen o)) (sym nothing) (All-nil (IsAnswered gives))
+  -- another message
+  text_not : (a b c : Point C S) (s : Socket S) (n : ℕ) (message : Message) → SoFar a b n → Comes remaining contents b.socket message s
+      → Takes gives reads remaining contents stations message (Ok false) (record b { socket = s }) c → SoFar a c n
+  text_not a b c s n (kind.Text words) so_far comes taken = absurd (false≢true taken.0)
+  text_not a b c s n (kind.Binary bytes) so_far comes taken = idle a b c s n (kind.Binary bytes) refl so_far comes taken.1
+  text_not a b c s n (kind.Ping bytes) so_far comes taken = idle a b c s n (kind.Ping bytes) refl so_far comes taken.1
+  text_not a b c s n (kind.Pong bytes) so_far comes taken = idle a b c s n (kind.Pong bytes) refl so_far comes taken.1
+  text_not a b c s n (kind.Close frame) so_far comes taken = idle a b c s n (kind.Close frame) refl so_far comes taken.1
 
-  -- what came with the answer to an event
-  of_event : (p p' : Held) (words : List ℕ) (moment : ℕ) (id : List ℕ) (request : Request) (reply : Option (List ℕ)) (told : Option Known) (seen : Option M) (at : StationPlace)
-      → message words moment ≡ Event id request → slice_get stations p.station ≡ Some at → IsDelivered gives stations p id request reply p' told seen → All (IsAnswered gives) (if_seen seen)
-  of_event p p' words moment id request reply told None at means there h = All-nil (IsAnswered gives)
-  of_event p p' words moment id request reply told (Some m) at means there h =
-      All-cons (IsAnswered gives) m []
-      (record { words = words; moment = moment; id = id; request = request; means = means; number = p.station; place = at; answer = h.answer; told = told; given = h.given at there })
-      (All-nil (IsAnswered gives))
+  -- a message, by whether it is a text
+  pub message_more : (a b c : Point C S) (s : Socket S) (n n' : ℕ) (message : Message) (is_text : Bool) → SoFar a b n → Comes remaining contents b.socket message s
+      → Takes gives reads remaining contents stations message (Ok is_text) (record b { socket = s }) c → n' ≡ cond is_text (n + 1) n → SoFar a c n'
+  message_more a b c s n n' message true so_far comes taken is = subst (λ k. SoFar a c k) (sym is) (text_more a b c s n message so_far comes taken)
+  message_more a b c s n n' message false so_far comes taken is = subst (λ k. SoFar a c k) (sym is) (text_not a b c s n message so_far comes taken)
 
-  -- what came with the answer to a text of this meaning
-  of_meaning : (p p' : Held) (words : List ℕ) (moment : ℕ) (meaning : Meaning) (reply : Option (List ℕ)) (told : Option Known) (seen : Option M) (at : StationPlace) → message words moment ≡ meaning
-      → slice_get stations p.station ≡ Some at → AnswersMeaning gives stations p meaning reply p' told seen → All (IsAnswered gives) (if_seen seen)
-  of_meaning p p' words moment Silence reply told seen at means there h = none_came seen h.nothing
-  of_meaning p p' words moment (Ready text) reply told seen at means there h = none_came seen h.nothing
-  of_meaning p p' words moment (Event id request) reply told seen at means there h = of_event p p' words moment id request reply told seen at means there h
+  -- the session ended with the texts so far
+  pub rests : (a b : Point C S) (n : ℕ) (why : Why) → SoFar a b n → IsAttended gives reads remaining contents stations why n a b
+  rests a b n why so_far = record { each = so_far.each; last = b; turns = so_far.turns; count = so_far.count; ends = inl refl }
 
-  -- what came with the answer to a text
-  of_text : (p p' : Held) (words : List ℕ) (moment : ℕ) (reply : Option (List ℕ)) (told : Option Known) (seen : Option M) (memory : Bool) (at : StationPlace)
-      → slice_get stations p.station ≡ Some at → Answers gives stations p words moment reply p' told seen memory → All (IsAnswered gives) (if_seen seen)
-  of_text p p' words moment reply told seen true at there h = none_came seen h.ready.nothing
-  of_text p p' words moment reply told seen false at there h = of_meaning p p' words moment (message words moment) reply told seen at refl there h
+  -- the session ended while it waited
+  pub ends_waiting : (a b : Point C S) (s : Socket S) (n : ℕ) (why : Why) → SoFar a b n → Waits remaining contents b.socket s
+      → IsAttended gives reads remaining contents stations why n a (record b { socket = s })
+  ends_waiting a b s n why so_far waited =
+      rests a (record b { socket = s }) n why (record {
+        each = so_far.each;
+        turns = turns_then_still a so_far.each b (record b { socket = s }) so_far.turns (record { waited = waited; pass = refl; clock = refl });
+        count = so_far.count;
+      })
 
-  -- what came with the answers to texts
-  of_texts : (p p' : Held) (ts : List (Text M)) (at : StationPlace) → slice_get stations p.station ≡ Some at → AreAnswered gives stations p ts p' → All (IsAnswered gives) (seen_with ts)
-  of_texts p p' [] at there h = All-nil (IsAnswered gives)
-  of_texts p p' (t ∷ ts) at there h =
-      All-append (IsAnswered gives) (if_seen t.seen) (seen_with ts) (of_text p t.after t.words t.moment t.reply t.told t.seen t.memory at there h.0)
-      (of_texts t.after p' ts at (ap (slice_get stations) h.1.station ∙ there) h.2)
-
-  -- what a session handed on came with its answers
-  pub of_session : (p p' : Held) (seen : List M) (at : StationPlace) → slice_get stations p.station ≡ Some at → IsAttended gives stations p p' [] seen → All (IsAnswered gives) seen
-  of_session p p' seen at there h = subst (All (IsAnswered gives)) (sym h.all) (of_texts p p' h.texts at there h.answered)
+  -- the session ended with a message
+  pub ends_with : (a b c : Point C S) (s : Socket S) (n : ℕ) (message : Message) (end : Ending) → SoFar a b n → Comes remaining contents b.socket message s
+      → Takes gives reads remaining contents stations message (Err end) (record b { socket = s }) c → IsAttended gives reads remaining contents stations end.why n a c
+  ends_with a b c s n (kind.Text words) end so_far comes taken = record {
+    each = so_far.each;
+    last = b;
+    turns = so_far.turns;
+    count = so_far.count;
+    ends = inr (record {
+      words = words;
+      read = s;
+      received = record { message = kind.Text words; is = refl; comes = comes };
+      taken = taken.0;
+      has_reply = taken.1;
+      fault = taken.2;
+    });
+  }
+  ends_with a b c s n (kind.Binary bytes) end so_far comes taken = rests a c n end.why (idle a b c s n (kind.Binary bytes) refl so_far comes taken)
+  ends_with a b c s n (kind.Ping bytes) end so_far comes taken = rests a c n end.why (idle a b c s n (kind.Ping bytes) refl so_far comes taken)
+  ends_with a b c s n (kind.Pong bytes) end so_far comes taken = rests a c n end.why (idle a b c s n (kind.Pong bytes) refl so_far comes taken)
+  ends_with a b c s n (kind.Close frame) end so_far comes taken = rests a c n end.why (idle a b c s n (kind.Close frame) refl so_far comes taken)

@@ -9,7 +9,6 @@ use crate::delivers::{Delivers, Ordered};
 use arrayvec::ArrayString;
 use ledger_model::{Answer, Moment};
 use ocppj_frame::{ErrorCode, error_text};
-use site_book::Told;
 use site_desk::{Gate, Pass};
 use std::alloc::{AllocError, Global};
 use std::sync::Wait;
@@ -23,8 +22,6 @@ pub struct Answered<D: Delivers> {
     pub text: Option<ArrayString<512>>,
     /// The desk's answer to the text's event; `None` if it has none, or if there was no memory.
     pub outcome: Option<Answer>,
-    /// The `Told` of the site's book, if the text's event was accepted.
-    pub told: Option<Told<D::Names>>,
     /// What the desk returned with the answer.
     pub seen: Option<D::Seen>,
     /// Whether the reply reports OutOfMemory; nothing changed then.
@@ -38,8 +35,6 @@ pub(crate) struct Replied<D: Delivers> {
     pub(crate) has_reply: bool,
     // The desk's answer to the text's event; `None` if it has none, or if there was no memory.
     pub(crate) outcome: Option<Answer>,
-    // The `Told` of the site's book, if the text's event was accepted.
-    pub(crate) told: Option<Told<D::Names>>,
     // What the desk returned with the answer.
     pub(crate) seen: Option<D::Seen>,
     // Whether the reply reports OutOfMemory; nothing changed then.
@@ -54,10 +49,10 @@ fn deliver<D: Delivers, G: Gate, R: Wait + Clock>(
     pass: &mut Pass,
     ordered: Ordered<'_>,
     gate: &G,
-) -> Result<(Answer, Option<Told<D::Names>>, Option<D::Seen>), AllocError>
+) -> Result<(Answer, Option<D::Seen>), AllocError>
     requires { Asks ordered.text.now ordered.key ordered.event }
-    ensures submitted { IfOk result (λ r. IsSubmitted (D.stations desk.now) pass.old (Command.Deliver ordered.entry.key ordered.entry.event) r.0 pass.new r.1) }
-    ensures given { IfOk result (λ r. IsGivenAt D.gives (D.stations desk.now) pass.old.station (Command.Deliver ordered.entry.key ordered.entry.event) r.0 r.1 r.2) }
+    ensures submitted { IfOk result (λ r. IsSubmitted (D.stations desk.now) pass.old (Command.Deliver ordered.entry.key ordered.entry.event) r.0 pass.new) }
+    ensures given { IfOk result (λ r. IsGivenAt D.gives (D.stations desk.now) pass.old.station (Command.Deliver ordered.entry.key ordered.entry.event) r.0 r.1) }
     ensures answered { IfOk result (λ r. answers_delivery r.0 ≡ true) }
     ensures same { OnErr result (pass.new ≡ pass.old) }
     ensures next { IsNextPass pass.old pass.new }
@@ -86,8 +81,8 @@ pub fn answer_text<D: Delivers, G: Gate, R: Wait + Clock>(
     now: Moment,
     gate: &G,
 ) -> Answered<D>
-    ensures answers { Answers D.gives (D.stations desk.now) pass.old text.now now (option_map (λ t. t.bytes) result.text) pass.new result.told result.seen result.memory }
-    ensures outcome { Outcomes D.gives (D.stations desk.now) pass.old text.now now result.outcome (option_map (λ t. t.bytes) result.text) pass.new result.told result.seen result.memory }
+    ensures answers { Answers D.gives (D.stations desk.now) pass.old text.now now (option_map (λ t. t.bytes) result.text) pass.new result.seen result.memory }
+    ensures outcome { Outcomes D.gives (D.stations desk.now) pass.old text.now now result.outcome (option_map (λ t. t.bytes) result.text) pass.new result.seen result.memory }
     ensures next { IsNextPass pass.old pass.new }
     ensures while_reading { IsTrue result.memory → length text.now ≤ longest_message }
 {
@@ -95,14 +90,12 @@ pub fn answer_text<D: Delivers, G: Gate, R: Wait + Clock>(
     let Replied {
         has_reply,
         outcome,
-        told,
         seen,
         memory,
     } = put_answer(desk, rt, alloc, pass, text, now, gate, &mut reply);
     Answered {
         text: if has_reply { Some(reply) } else { None },
         outcome,
-        told,
         seen,
         memory,
     }
@@ -120,8 +113,8 @@ pub(crate) fn put_answer<D: Delivers, G: Gate, R: Wait + Clock>(
     gate: &G,
     reply: &mut ArrayString<512>,
 ) -> Replied<D>
-    ensures answers { Answers D.gives (D.stations desk.now) pass.old text.now now (reply_of result.has_reply reply.new.bytes) pass.new result.told result.seen result.memory }
-    ensures outcome { Outcomes D.gives (D.stations desk.now) pass.old text.now now result.outcome (reply_of result.has_reply reply.new.bytes) pass.new result.told result.seen result.memory }
+    ensures answers { Answers D.gives (D.stations desk.now) pass.old text.now now (reply_of result.has_reply reply.new.bytes) pass.new result.seen result.memory }
+    ensures outcome { Outcomes D.gives (D.stations desk.now) pass.old text.now now result.outcome (reply_of result.has_reply reply.new.bytes) pass.new result.seen result.memory }
     ensures next { IsNextPass pass.old pass.new }
     ensures while_reading { IsTrue result.memory → length text.now ≤ longest_message }
 {
@@ -134,12 +127,11 @@ pub(crate) fn put_answer<D: Delivers, G: Gate, R: Wait + Clock>(
                 token,
             },
         ) => match deliver(desk, rt, alloc, pass, Ordered { text, key, event }, gate) {
-            Ok((answer, told, seen)) => {
+            Ok((answer, seen)) => {
                 put_event_reply(reply, id.as_str(), token, &answer);
                 Replied {
                     has_reply: true,
                     outcome: Some(answer),
-                    told,
                     seen,
                     memory: false,
                 }
@@ -149,7 +141,6 @@ pub(crate) fn put_answer<D: Delivers, G: Gate, R: Wait + Clock>(
                 Replied {
                     has_reply: true,
                     outcome: None,
-                    told: None,
                     seen: None,
                     memory: true,
                 }
@@ -158,14 +149,12 @@ pub(crate) fn put_answer<D: Delivers, G: Gate, R: Wait + Clock>(
         Asked::Reply { memory } => Replied {
             has_reply: true,
             outcome: None,
-            told: None,
             seen: None,
             memory,
         },
         Asked::Silent => Replied {
             has_reply: false,
             outcome: None,
-            told: None,
             seen: None,
             memory: false,
         },

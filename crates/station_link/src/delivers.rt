@@ -1,6 +1,6 @@
 //! The taker of a session's events.
 use ledger_model::{Answer, Command, Event, Key};
-use site_book::{Naming, Told};
+use site_book::Naming;
 use site_desk::{Desk, Gate, Pass};
 use std::alloc::{AllocError, Global};
 use std::sync::Wait;
@@ -30,12 +30,11 @@ pub trait Delivers {
     ghost use Rattle.std.specs.Prelude.{◌≡◌, ℕ, List, Option, IfOk, OnErr};
     ghost use Rattle.ledger_model.{specs.declared.answer.Answer.Answer, specs.declared.command.Command.Command};
     ghost use Rattle.site_desk.specs.declared.roster.StationPlace.{StationPlace};
-    ghost use Rattle.site_book.specs.Book.{Known};
     ghost use Rattle.station_link.specs.Answer.{Asks, IsGivenAt, IsSubmitted};
 
     ghost stations: { Self → List StationPlace };
 
-    ghost gives: { ℕ → StationPlace → Command → Answer → Option Known → Option Self.Seen → Type 0 };
+    ghost gives: { ℕ → StationPlace → Command → Answer → Option Self.Seen → Type 0 };
 
     /// Takes the delivery that a text asks for, with a pass, and returns the answer as
     /// [`Desk::submit`](site_desk::Desk::submit) does. If there is no memory, nothing changes.
@@ -48,10 +47,10 @@ pub trait Delivers {
         pass: &mut Pass,
         ordered: Ordered<'_>,
         gate: &G,
-    ) -> Result<(Answer, Option<Told<Self::Names>>, Option<Self::Seen>), AllocError>
+    ) -> Result<(Answer, Option<Self::Seen>), AllocError>
         requires { Asks ordered.text.now ordered.key ordered.event }
-        ensures submitted { IfOk result (λ r. IsSubmitted (stations self.now) pass.old (Command.Deliver ordered.entry.key ordered.entry.event) r.0 pass.new r.1) }
-        ensures given { IfOk result (λ r. IsGivenAt gives (stations self.now) pass.old.station (Command.Deliver ordered.entry.key ordered.entry.event) r.0 r.1 r.2) }
+        ensures submitted { IfOk result (λ r. IsSubmitted (stations self.now) pass.old (Command.Deliver ordered.entry.key ordered.entry.event) r.0 pass.new) }
+        ensures given { IfOk result (λ r. IsGivenAt gives (stations self.now) pass.old.station (Command.Deliver ordered.entry.key ordered.entry.event) r.0 r.1) }
         ensures same { OnErr result (pass.new ≡ pass.old) };
 }
 
@@ -62,7 +61,7 @@ impl<J: Naming + Send + Sync> Delivers for Desk<J> {
 
     ghost stations = { λ d. d.stations };
 
-    ghost gives = { λ _ _ _ _ _ _. Unit {0} };
+    ghost gives = { λ _ _ _ _ _. Unit {0} };
 
     fn deliver<G: Gate, R: Wait + Clock>(
         &self,
@@ -71,13 +70,13 @@ impl<J: Naming + Send + Sync> Delivers for Desk<J> {
         pass: &mut Pass,
         ordered: Ordered<'_>,
         gate: &G,
-    ) -> Result<(Answer, Option<Told<J>>, Option<()>), AllocError> {
+    ) -> Result<(Answer, Option<()>), AllocError> {
         let Ordered {
             text: _,
             key,
             event,
         } = ordered;
-        let (answer, told) = self.submit(rt, pass, Command::Deliver(key, event), gate);
-        Ok((answer, told, None))
+        let (answer, _told) = self.submit(rt, pass, Command::Deliver(key, event), gate);
+        Ok((answer, None))
     }
 }

@@ -17,7 +17,7 @@
 //! simulated station sends: its clauses only count texts and replies.
 //!
 //! ```text
-//! answer_text(&desk, rt, alloc, &mut pass, text, now, &NoGate);      // Answered { text, outcome, told, seen, memory }
+//! answer_text(&desk, rt, alloc, &mut pass, text, now, &NoGate);      // Answered { text, outcome, seen, memory }
 //! let end = serve_connection(rt, alloc, stream, &desk, &NoGate, &mut clock);
 //! end.why == Why::PeerClosed                                         // end.pass goes to Desk::close
 //! ```

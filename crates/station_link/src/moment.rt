@@ -1,18 +1,25 @@
-use ledger_model::{FIRST_MOMENT, Moment};
+ghost use Rattle.station_link.specs.Moment.{IsPresent};
+
+use ledger_model::Moment;
 
 /// A source of the present moment, for sessions.
 pub trait MomentSource {
-    /// The present moment; `None` if it is unknown, which counts as 2000-01-01T00:00:00Z.
-    fn now(&mut self) -> Option<Moment>;
+    ghost use Rattle.std.specs.Prelude.{ℕ, Option};
+
+    ghost reads: { Self → Option ℕ → Self → Type 0 };
+
+    /// The present moment; `None` if it is unknown, which counts as 2000-01-01T00:00:00Z. `reads` is what a reading
+    /// says of the source before it and after it.
+    fn now(&mut self) -> Option<Moment>
+        ensures { reads self.old result self.new };
 }
 
-/// The present moment, or the first of all if it is unknown.
-pub fn present<C: MomentSource>(clock: &mut C) -> Moment {
+/// The present moment, or the first of all if it is unknown: the source is read once.
+pub fn present<C: MomentSource>(clock: &mut C) -> Moment
+    ensures { IsPresent C.reads clock.old result clock.new }
+{
     match clock.now() {
         Some(moment) => moment,
-        None => match Moment::new(FIRST_MOMENT) {
-            Some(moment) => moment,
-            None => unreachable!(),
-        },
+        None => Moment::first(),
     }
 }

@@ -1,7 +1,6 @@
 //! A session: one connection of a station, from its handshake to its end.
-ghost use Rattle.std.specs.Prelude.{◌≡◌, ◌≢◌, ◌≤◌, ◌<◌, ◌+◌, ◌++◌, [], All, IsNone, IsSome, IfErr, IfSome, None, Some, length, slice_get, vec_capacity, vec_len};
-ghost use Rattle.site_desk.specs.declared.roster.StationPlace.{StationPlace};
-ghost use Rattle.station_link.{specs.declared.ending.Why.Why, specs.Attended.{IsAnswered, IsAttended, if_seen}, specs.Session.{MayEnd, MayHavePass, MayLackPass, most_messages}};
+ghost use Rattle.std.specs.Prelude.{◌≡◌, ◌≢◌, ◌≤◌, ◌<◌, ◌+◌, IsNone, IsSome, IfErr, IfOk, IfSome, None, Some, OnErr, OnOk, length, true};
+ghost use Rattle.station_link.{specs.declared.ending.Why.Why, specs.Answer.reply_of, specs.Attended.{IsAttended, IsSendFault, Point, Takes}, specs.Exchange.{Comes, Sends, Waits}, specs.Session.{MayEnd, MayHavePass, MayLackPass, most_messages}};
 
 use crate::answer::{Replied, put_answer};
 use crate::attendant::{Attendant, Nobody};
@@ -51,7 +50,7 @@ pub struct Client<'a, S: Read + Write + Drop> {
 
 /// How a session ended.
 #[derive(Drop)]
-pub struct SessionEnd<M> {
+pub struct SessionEnd {
     /// Why it ended.
     pub why: Why,
     /// The pass of its station, if it got one.
@@ -61,12 +60,10 @@ pub struct SessionEnd<M> {
     pub messages: u64,
     /// How many of them were texts, with a reply or without one.
     pub texts: u64,
-    /// What the desk returned with the answers, in their order.
-    pub seen: Vec<M>,
 }
 
 // The end of a session that got no pass.
-fn refused<M>(alloc: Global, why: Why) -> SessionEnd<M>
+fn refused(why: Why) -> SessionEnd
     ensures why { result.why ≡ why }
     ensures pass { result.pass ≡ None }
     ensures messages { result.messages ≡ 0 }
@@ -76,7 +73,6 @@ fn refused<M>(alloc: Global, why: Why) -> SessionEnd<M>
         pass: None,
         messages: 0,
         texts: 0,
-        seen: Vec::new(alloc),
     }
 }
 
@@ -89,7 +85,7 @@ pub fn serve_connection<
     S: Read + Write + Drop,
     G: Gate,
     C: MomentSource,
->(rt: &R, alloc: Global, stream: S, desk: &Desk<J>, gate: &G, clock: &mut C) -> SessionEnd<()>
+>(rt: &R, alloc: Global, stream: S, desk: &Desk<J>, gate: &G, clock: &mut C) -> SessionEnd
     ensures lacks { IsNone result.pass → MayLackPass result.why }
     ensures has { IsSome result.pass → MayHavePass result.why }
     ensures station { IfSome result.pass (λ p. p.station < length desk.now.stations) }
@@ -100,7 +96,7 @@ pub fn serve_connection<
     let seen = Cell::new(Seen::Nothing);
     let mut socket = match shake_hands(alloc, stream, Look { seen: &seen }) {
         Ok(socket) => socket,
-        Err(why) => return refused(alloc, why),
+        Err(why) => return refused(why),
     };
     match admit(rt, desk, seen.into_inner()) {
         Ok((name, pass)) => {
@@ -113,7 +109,7 @@ pub fn serve_connection<
         }
         Err(why) => {
             say_goodbye(&mut socket, end_of_refusal(why).code, "");
-            refused(alloc, why)
+            refused(why)
         }
     }
 }
@@ -139,9 +135,9 @@ pub fn serve_session<
     gate: &G,
     clock: &mut C,
     attendant: &A,
-) -> SessionEnd<D::Seen>
-    ensures attended { IfSome result.pass (λ p. IsAttended D.gives (D.stations desk.now) client.entry.pass p [] result.seen.items) }
-    ensures answered { (at : StationPlace) → slice_get (D.stations desk.now) client.entry.pass.station ≡ Some at → All (IsAnswered D.gives) result.seen.items }
+) -> SessionEnd
+    ensures attended { IfSome result.pass (λ p. (last : Point C S) × (last.pass ≡ p) × IsAttended D.gives C.reads S.remaining S.contents (D.stations desk.now)
+        result.why result.texts (record { pass = client.entry.pass; clock = clock.old; socket = client.entry.socket.now }) last) }
     ensures given_back { IsSome result.pass }
     ensures why { MayEnd (A.dismisses attendant.now) result.why }
     ensures station { IfSome result.pass (λ p. p.station ≡ client.entry.pass.station) }
@@ -166,7 +162,6 @@ pub fn serve_session<
         pass: Some(pass),
         messages: ended.messages,
         texts: ended.texts,
-        seen: ended.seen,
     }
 }
 
@@ -192,11 +187,10 @@ pub(crate) fn shake_hands<S: Read + Write + Drop, L: Callback + Drop>(
 // The result of all messages: how the session ends, how many messages it took, the last one included, and how
 // many texts.
 #[derive(Drop)]
-struct Ended<M> {
+struct Ended {
     end: Ending,
     messages: u64,
     texts: u64,
-    seen: Vec<M>,
 }
 
 // Answers message after message until the session ends.
@@ -217,8 +211,9 @@ fn answer_all<
     gate: &G,
     clock: &mut C,
     attendant: &A,
-) -> Ended<D::Seen>
-    ensures attended { IsAttended D.gives (D.stations desk.now) pass.old pass.new [] result.seen.items }
+) -> Ended
+    ensures attended { IsAttended D.gives C.reads S.remaining S.contents (D.stations desk.now) result.end.why result.texts
+        (record { pass = pass.old; clock = clock.old; socket = socket.old }) (record { pass = pass.new; clock = clock.new; socket = socket.new }) }
     ensures why { MayEnd (A.dismisses attendant.now) result.end.why }
     ensures station { pass.new.station ≡ pass.old.station }
     ensures few { pass.new.changes ≤ pass.old.changes + result.messages }
@@ -227,38 +222,37 @@ fn answer_all<
     ensures spent { result.end.why ≡ Why.MessagesSpent → result.messages ≡ most_messages }
 {
     let mut reply = ArrayString::new();
-    let mut seen = Vec::new(alloc);
     let mut texts = 0;
     for turn in 0..MAX_MESSAGES {
         let message = match await_message(rt, socket, attendant) {
             Ok(message) => message,
-            Err(end) => return end_after(end, turn + 1, texts, seen),
+            Err(end) => return end_after(end, turn + 1, texts),
         };
         let taken = answer_message(
-            rt, alloc, socket, desk, pass, gate, clock, message, &mut reply, &mut seen,
+            rt, alloc, socket, desk, pass, gate, clock, message, &mut reply,
         );
         match taken {
-            Ok(true) => {
-                texts += 1;
-                gate.after(rt, name, texts);
+            Ok(is_text) => {
+                if is_text {
+                    texts += 1;
+                    gate.after(rt, name, texts);
+                }
             }
-            Ok(false) => {}
-            Err(end) => return end_after(end, turn + 1, texts, seen),
+            Err(end) => return end_after(end, turn + 1, texts),
         }
     }
     let end = Ending::told(Why::MessagesSpent, CloseCode::Error);
-    end_after(end, MAX_MESSAGES, texts, seen)
+    end_after(end, MAX_MESSAGES, texts)
 }
 
 // The end of a session after this many messages, with this many texts among them.
-fn end_after<M>(end: Ending, messages: u64, texts: u64, seen: Vec<M>) -> Ended<M>
-    ensures { result ≡ record { end = end; messages = messages; texts = texts; seen = seen } }
+fn end_after(end: Ending, messages: u64, texts: u64) -> Ended
+    ensures { result ≡ record { end = end; messages = messages; texts = texts } }
 {
     Ended {
         end,
         messages,
         texts,
-        seen,
     }
 }
 
@@ -269,6 +263,8 @@ fn await_message<R: Wait, S: Read + Write + Drop, A: Attendant>(
     socket: &mut WebSocket<S, NoMask>,
     attendant: &A,
 ) -> Result<Message, Ending>
+    ensures comes { IfOk result (λ message. Comes S.remaining S.contents socket.old message socket.new) }
+    ensures waits { OnErr result (Waits S.remaining S.contents socket.old socket.new) }
     ensures why { IfErr result (λ end. MayEnd (A.dismisses attendant.now) end.why) }
     ensures unspent { IfErr result (λ end. end.why ≢ Why.MessagesSpent) }
 {
@@ -299,8 +295,7 @@ fn is_tick(error: &Error) -> bool {
     }
 }
 
-// Answers a message, with a buffer for the reply, and returns whether it was a text. What came with the answer is
-// appended; there is room for it before the desk takes the event.
+// Answers a message that was read, with a buffer for the reply, and returns whether it was a text.
 fn answer_message<D: Delivers, R: Wait + Clock, S: Read + Write + Drop, G: Gate, C: MomentSource>(
     rt: &R,
     alloc: Global,
@@ -311,9 +306,9 @@ fn answer_message<D: Delivers, R: Wait + Clock, S: Read + Write + Drop, G: Gate,
     clock: &mut C,
     message: Message,
     reply: &mut ArrayString<512>,
-    seen: &mut Vec<D::Seen>,
 ) -> Result<bool, Ending>
-    ensures attended { IsAttended D.gives (D.stations desk.now) pass.old pass.new seen.old.items seen.new.items }
+    ensures taken { Takes D.gives C.reads S.remaining S.contents (D.stations desk.now) message result
+        (record { pass = pass.old; clock = clock.old; socket = socket.old }) (record { pass = pass.new; clock = clock.new; socket = socket.new }) }
     ensures has { IfErr result (λ end. MayHavePass end.why) }
     ensures unspent { IfErr result (λ end. end.why ≢ Why.MessagesSpent) }
     ensures station { pass.new.station ≡ pass.old.station }
@@ -321,23 +316,18 @@ fn answer_message<D: Delivers, R: Wait + Clock, S: Read + Write + Drop, G: Gate,
 {
     match message {
         Message::Text(text) => {
-            if seen.reserve(1).is_err() {
-                return Err(Ending::untold(Why::OutOfMemory));
-            }
             let now = present(clock);
             let text = text.as_str();
             let Replied {
                 has_reply,
                 outcome: _,
-                told: _,
-                seen: one,
+                seen: _,
                 memory: _,
             } = put_answer(desk, rt, alloc, pass, text, now, gate, reply);
-            keep(seen, one);
-            if has_reply {
-                send_reply(alloc, socket, reply.as_str())?;
+            match send_answer(alloc, socket, has_reply, reply) {
+                Ok(()) => Ok(true),
+                Err(end) => Err(end),
             }
-            Ok(true)
         }
         Message::Ping(_bytes) | Message::Pong(_bytes) => Ok(false),
         Message::Binary(_bytes) => Err(Ending::told(Why::BinaryMessage, CloseCode::Unsupported)),
@@ -348,22 +338,33 @@ fn answer_message<D: Delivers, R: Wait + Clock, S: Read + Write + Drop, G: Gate,
     }
 }
 
-// Appends what came with an answer, if anything did.
-fn keep<M: Drop>(seen: &mut Vec<M>, one: Option<M>)
-    requires room { vec_len seen.old < vec_capacity seen.old }
-    ensures { seen.new.items ≡ seen.old.items ++ if_seen one }
+// Sends the reply to a text, if it has one.
+fn send_answer<S: Read + Write + Drop>(
+    alloc: Global,
+    socket: &mut WebSocket<S, NoMask>,
+    has_reply: bool,
+    reply: &ArrayString<512>,
+) -> Result<(), Ending>
+    ensures sent { OnOk result (Sends S.contents socket.old (reply_of has_reply reply.now.bytes) socket.new) }
+    ensures fault { IfErr result (λ end. (has_reply ≡ true) × IsSendFault end.why) }
+    ensures has { IfErr result (λ end. MayHavePass end.why) }
+    ensures unspent { IfErr result (λ end. end.why ≢ Why.MessagesSpent) }
 {
-    if let Some(one) = one {
-        seen.push_reserved(one);
+    if has_reply {
+        send_reply(alloc, socket, reply.as_str())
+    } else {
+        Ok(())
     }
 }
 
-// Sends the reply to a text.
+// Sends a reply.
 fn send_reply<S: Read + Write + Drop>(
     alloc: Global,
     socket: &mut WebSocket<S, NoMask>,
     reply: &str,
 ) -> Result<(), Ending>
+    ensures sent { OnOk result (Sends S.contents socket.old (Some reply.now) socket.new) }
+    ensures fault { IfErr result (λ end. IsSendFault end.why) }
     ensures has { IfErr result (λ end. MayHavePass end.why) }
     ensures unspent { IfErr result (λ end. end.why ≢ Why.MessagesSpent) }
 {

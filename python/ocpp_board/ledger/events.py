@@ -22,7 +22,7 @@ from ocpp_board.records import DELIVER, Line
 # The members of messages of which the program's lists say nothing.
 BESIDE = "measurand phase location signedMeterValue stoppedReason idToken remoteStartId offline"
 BESIDE_WORDS = tuple(f'"{name}"' for name in BESIDE.split())
-# A unit that stands beside its value.
+# A unit that is beside its value.
 UNIT_WORD, UNIT_HOLDER = '"unit"', '"unitOfMeasure"'
 # The number of an event, in a text that has one member of this name.
 NUMBER_WORD = '"seqNo"'

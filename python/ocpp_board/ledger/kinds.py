@@ -42,7 +42,7 @@ class Kind(Enum):
     UNIT = (
         "value in another unit",
         "The register rose by a thousandth of what the measured power gives, or by a thousand times as much, or a "
-        "member `unit` stands beside a value, where OCPP 2.0.1 has none: the value is in another unit than the "
+        "member `unit` is beside a value, where OCPP 2.0.1 has none: the value is in another unit than the "
         "message says. Take the log with `--mend SITE=unit`, correct the readings by `operate correct`, or declare "
         "the difference by `adjust credit`.",
         Effect.WRONG,
@@ -149,8 +149,9 @@ class Kind(Enum):
     )
     NO_READING = (
         "no counted reading",
-        "The session is complete and has no reading of energy, so it shows 0 kWh. Look in the log for MeterValues of "
-        "its time, or read the meter, and declare its energy by `adjust credit`.",
+        "The session is complete and has no reading of energy, so it shows 0 kWh. Declare its energy by `adjust "
+        "estimate --register meter-values` where MeterValues of its EVSE are around it (`estimates` lists them), else "
+        "by `adjust credit`, as the log or the meter says.",
         Effect.LACKS,
         False,
     )

@@ -36,7 +36,7 @@ class Reading(NamedTuple):
 
 class Measured(NamedTuple):
     """What a message measures beside the registers that count: power by time (seconds since 1970, and W), the sum of
-    interval values in mWh, and a unit that stands beside a value, where OCPP 2.0.1 has none."""
+    interval values in mWh, and a unit that is beside a value, where OCPP 2.0.1 has none."""
 
     powers: tuple[tuple[float, float], ...] = ()
     intervals: int = 0

@@ -39,6 +39,8 @@ const FIRST: &str =
 struct TenOClock;
 
 impl MomentSource for TenOClock {
+    ghost reads = { λ _ _ _. Unit {0} };
+
     fn now(&mut self) -> Option<Moment> {
         Moment::new(1_772_359_200_000_000_000)
     }

@@ -1,7 +1,7 @@
 use super::memory::{CLOSE, Frames, Memory, PING, PONG, Peer, TEXT};
 use super::{Scene, TenOClock, plays, text_frames};
 use energy_flow::Work;
-use ledger_model::Name;
+use ledger_model::{Answer, Name};
 use site_book::Naming;
 use site_desk::{Desk, NoGate, Pass};
 use station_link::{MomentSource, SimFault, SimStation, answer_text};
@@ -34,23 +34,27 @@ fn are(strings: &[String], expected: &[&str]) -> bool {
     strings.len() == expected.len() && pairs.all(|(text, expected)| text.as_str() == *expected)
 }
 
-// Returns whether a text of the pass has this reply, and comes with a `Told` or not.
+// Returns whether a text of the pass has this reply, and its event is accepted, or is a repeat.
 fn is_answered<J: Naming + Send + Sync, R: Wait + Clock>(
     rt: &R,
     alloc: Global,
     desk: &Desk<J>,
     pass: &mut Pass,
     (text, reply): (&str, &str),
-    is_told: bool,
+    is_accepted: bool,
 ) -> Option<bool> {
     let now = TenOClock.now()?;
     let answered = answer_text(desk, rt, alloc, pass, text, now, &NoGate);
     let is_reply = answered.text?.as_str() == reply;
-    Some(is_reply && answered.told.is_some() == is_told && !answered.memory)
+    let is_as_wanted = match answered.outcome {
+        Some(Answer::Accepted(_)) => is_accepted,
+        Some(Answer::Repeat) => !is_accepted,
+        _ => false,
+    };
+    Some(is_reply && is_as_wanted && !answered.memory)
 }
 
-// The pass of the station's texts when they are answered one by one: the last one repeats the first, and only
-// that comes without a `Told`.
+// The pass of the station's texts when they are answered one by one: only the last one is a repeat, of the first.
 fn pass_of_texts<J: Naming + Send + Sync, R: Threads + Wait + Clock>(
     rt: &R,
     alloc: Global,

@@ -23,6 +23,8 @@ use std::time::Clock;
 struct NoMoment;
 
 impl MomentSource for NoMoment {
+    ghost reads = { λ _ _ _. Unit {0} };
+
     fn now(&mut self) -> Option<Moment> {
         None
     }

@@ -6,7 +6,7 @@ use Rattle.ocpp_board.specs.Run.{IsRefusal}
 use Rattle.ocpp_board.proofs.run.run.Goals as goal
 
 pub returns-in-Ok-read_arguments : goal.returns-in-Ok-read_arguments
-returns-in-Ok-read_arguments g c = record { run = inr (app_of c.in-Ok.program, c.in-Ok.ensures, inl (c.in-Ok-read_arguments.asked, c.in-Ok-read_arguments.ensures.asked, c.run_asked.ensures)) }
+returns-in-Ok-read_arguments g c = record { run = inr (app_of c.in-Ok.program, c.in-Ok.ensures.simple, c.in-Ok.ensures.commands, inl (c.in-Ok-read_arguments.asked, c.in-Ok-read_arguments.ensures.asked, c.run_asked.ensures)) }
 
 pub returns-in-Err : goal.returns-in-Err
 returns-in-Err g c =
@@ -17,7 +17,8 @@ returns-in-Err g c =
     record {
       run = inr (
         app_of c.in-Ok.program,
-        c.in-Ok.ensures,
+        c.in-Ok.ensures.simple,
+        c.in-Ok.ensures.commands,
         inr (
           kind,
           refused,

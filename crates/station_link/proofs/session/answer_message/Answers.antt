@@ -1,17 +1,60 @@
-use Rattle.std.proofs.Common.{◌++◌, ap, ◌∙◌}
-use Rattle.station_link.{specs.Answer.reply_of, specs.Attended.if_seen, proofs.Attended.one_text}
+use Rattle.std.{proofs.Common.{◌≡◌, Err, Ok, refl, rules, subst, sym, true}, specs.Prelude.is_some}
+use Rattle.station_link.{specs.Answer.{Answers, reply_of}, specs.Attended.{Point, Takes}, proofs.Attended.{flushes, is_reply}}
 use Rattle.station_link.proofs.session.answer_message.Goals as goal
 
-pub returns-in_err-send_reply-in-Text-clause-attended : goal.returns-in_err-send_reply-in-Text-clause-attended
-returns-in_err-send_reply-in-Text-clause-attended g c =
-    let answered = c.put_answer-has_reply in
-    let r = answered.result in
-    one_text g.D.Delivers.gives (g.D.Delivers.stations c.args.desk.now) _ _ c.as_str-text.result.now c.present-now.result (reply_of r.has_reply answered.new.reply.bytes) r.told r.seen r.memory _ _
-    answered.ensures.answers answered.ensures.next (c.keep.ensures ∙ ap (λ l. l ++ if_seen r.seen) c.reserve.ensures.items)
+pub returns-in-Ok-clause-taken : goal.returns-in-Ok-clause-taken
+returns-in-Ok-clause-taken g c =
+    let gives = g.D.Delivers.gives in
+    let places = g.D.Delivers.stations c.args.desk.now in
+    let a = c.put_answer-has_reply in
+    let r = a.result in
+    let reply = reply_of r.has_reply a.new.reply.bytes in
+    let words : c.as_str-text.result.now ≡ c.in-Text.text = search rules in
+    let before : Point g.row.C.Denot g.row.S.Denot = record { pass = c.args.pass.now; clock = c.args.clock.now; socket = c.args.socket.now } in
+    let after : Point g.row.C.Denot g.row.S.Denot = record { pass = a.new.pass; clock = c.present-now.new.clock; socket = c.send_answer.new.socket } in
+    subst (λ m. Takes gives g.C.MomentSource.reads g.S.Read.remaining g.S.Write.contents places m (Ok true) before after) (sym c.in-Text.is) (
+      refl,
+      (
+        record {
+          moment = c.present-now.result;
+          reply = reply;
+          seen = r.seen;
+          memory = r.memory;
+          present = c.present-now.ensures;
+          answered = subst (λ w. Answers gives places c.args.pass.now w c.present-now.result reply a.new.pass r.seen r.memory) words a.ensures.answers;
+          next = a.ensures.next;
+        },
+        c.in-Ok.ensures.sent,
+      ),
+    )
 
-pub returns-after-has_reply-clause-attended : goal.returns-after-has_reply-clause-attended
-returns-after-has_reply-clause-attended g c =
-    let answered = c.put_answer-has_reply in
-    let r = answered.result in
-    one_text g.D.Delivers.gives (g.D.Delivers.stations c.args.desk.now) _ _ c.as_str-text.result.now c.present-now.result (reply_of r.has_reply answered.new.reply.bytes) r.told r.seen r.memory _ _
-    answered.ensures.answers answered.ensures.next (c.keep.ensures ∙ ap (λ l. l ++ if_seen r.seen) c.reserve.ensures.items)
+pub returns-in-Text-clause-taken : goal.returns-in-Text-clause-taken
+returns-in-Text-clause-taken g c =
+    let gives = g.D.Delivers.gives in
+    let places = g.D.Delivers.stations c.args.desk.now in
+    let a = c.put_answer-has_reply in
+    let r = a.result in
+    let reply = reply_of r.has_reply a.new.reply.bytes in
+    let words : c.as_str-text.result.now ≡ c.in-Text.text = search rules in
+    let before : Point g.row.C.Denot g.row.S.Denot = record { pass = c.args.pass.now; clock = c.args.clock.now; socket = c.args.socket.now } in
+    let after : Point g.row.C.Denot g.row.S.Denot = record { pass = a.new.pass; clock = c.present-now.new.clock; socket = c.send_answer.new.socket } in
+    subst (λ m. Takes gives g.C.MomentSource.reads g.S.Read.remaining g.S.Write.contents places m (Err c.in-Err.end) before after) (sym c.in-Text.is) (
+      record {
+        moment = c.present-now.result;
+        reply = reply;
+        seen = r.seen;
+        memory = r.memory;
+        present = c.present-now.ensures;
+        answered = subst (λ w. Answers gives places c.args.pass.now w c.present-now.result reply a.new.pass r.seen r.memory) words a.ensures.answers;
+        next = a.ensures.next;
+      },
+      is_reply r.has_reply a.new.reply.bytes c.in-Err.ensures.fault.0,
+      c.in-Err.ensures.fault.1,
+    )
+
+pub returns-clause-taken : goal.returns-clause-taken
+returns-clause-taken g c =
+    let before : Point g.row.C.Denot g.row.S.Denot = record { pass = c.args.pass.now; clock = c.args.clock.now; socket = c.args.socket.now } in
+    let after : Point g.row.C.Denot g.row.S.Denot = record { pass = c.args.pass.now; clock = c.args.clock.now; socket = c.flush.new.self } in
+    subst (λ m. Takes g.D.Delivers.gives g.C.MomentSource.reads g.S.Read.remaining g.S.Write.contents (g.D.Delivers.stations c.args.desk.now) m (Err c.untold.result) before after) (sym c.in-Close.is)
+    (record { waited = flushes g.S.Read.remaining g.S.Write.contents _ _ c.flush.ensures.sent; pass = refl; clock = refl })

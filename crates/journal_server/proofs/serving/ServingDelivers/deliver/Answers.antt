@@ -4,8 +4,8 @@ use Rattle.ledger_model.specs.declared.command.Command.TheVariants.{Deliver}
 use Rattle.site_desk.specs.declared.roster.StationPlace.{StationPlace}
 use Rattle.journal_server.proofs.serving.ServingDelivers.deliver.Goals as goal
 
-pub submit-requires-clause-speaks : goal.submit-requires-clause-speaks
-submit-requires-clause-speaks g c = λ at there.
+pub submit-answer-requires-clause-speaks : goal.submit-answer-requires-clause-speaks
+submit-answer-requires-clause-speaks g c = λ at there.
     let named = c.in-Some.ensures.named in
     let lookup : Some at ≡ Some named.place = sym there ∙ (λ i. slice_get (sym c.desk.ensures i).stations (sym c.station.ensures i)) ∙ named.there in
     let at_is : at ≡ named.place = cc lookup in
@@ -18,4 +18,10 @@ submit-requires-clause-speaks g c = λ at there.
     (record { some = some; speaks = c.in-Some-spoken.ensures.speaks (Deliver c.args.ordered.key c.args.ordered.event) c.in_ok-made.ensures.speaks })
 
 pub returns-clause-given : goal.returns-clause-given
-returns-clause-given g c at there = (_, _, c.submit.ensures.received at there)
+returns-clause-given g c at there = (_, _, _, c.submit-answer.ensures.received at there)
+
+pub returns-clause-submitted : goal.returns-clause-submitted
+returns-clause-submitted g c = record {
+  settled = λ at there. (c.submit-answer.result.1, c.submit-answer.ensures.settled at there);
+  stranger = λ none. let unknown = c.submit-answer.ensures.stranger none in (unknown.0, unknown.1.pass);
+}
