@@ -1,4 +1,4 @@
-"""List the stations whose messages are left out since they are of another version of OCPP.
+"""Lists the stations whose messages are left out since they are of another version of OCPP.
 
     ocpp-board left-out --store ledger.db
 

@@ -17,6 +17,8 @@ from ocpp_board.store.database import Database, open_store
 # What is asked goes from process to process as plain tuples, each with the place of its kind.
 KINDS: tuple[Any, ...] = (Message, Deed, Untaken)
 PLACES = {kind: place for place, kind in enumerate(KINDS)}
+# How processes are started.
+START = "forkserver"
 Packed = list[tuple[int, tuple[Any, ...]]]
 
 
@@ -60,7 +62,7 @@ class Settlers:
     """Some processes, each with the store open. What is of one station always goes to the same one, in its order."""
 
     def __init__(self, name: str, processes: int, is_durable: bool = True) -> None:
-        context = multiprocessing.get_context("forkserver")
+        context = multiprocessing.get_context(START)
         words = (name, is_durable, context.Lock())
         self.pools = [context.Pool(1, open_settler, words) for _ in range(processes)]
         self.place_of = dict[str, int]()

@@ -48,8 +48,9 @@ create view evse_next as
         order by l.first_at, l.transaction_id limit 1)
     where s.ended is null and s.evse <> 0 and s.events > 0;
 
--- How far the register of an EVSE rose or fell from one transaction to the next, where the one before was over: it rose
--- by 10 Wh at least, and by more than 100 Wh a day, which a cabinet may take; or it fell by 1 kWh at least, and does not
+-- How far the register of an EVSE rose or fell from one transaction to the next, where the one before was over: it
+-- rose by 10 Wh at least, and by more than 100 Wh a day, which a cabinet may take, and the one before has its end; or
+-- it fell by 1 kWh at least, and does not
 -- begin at 0 in each transaction. Energies are also there as texts of their watt-hours: eleven digits behind a 1.
 create view evse_change as
     select s.site, s.station, s.transaction_id, s.first_at, b.transaction_id as before_id,
@@ -64,7 +65,8 @@ create view evse_change as
             and l.first_at <= s.first_at and (l.first_at < s.first_at or l.transaction_id < s.transaction_id)
         order by l.first_at desc, l.transaction_id desc limit 1)
     where s.first_at >= b.last_at
-        and (s.first_register - s.before_register >= 10000 and s.first_register - s.before_register > 100000
+        and (b.ended is not null and s.first_register - s.before_register >= 10000
+            and s.first_register - s.before_register > 100000
             * (/*sqlite julianday(s.first_at) - julianday(b.last_at)*/
             /*postgresql extract(epoch from s.first_at - b.last_at) / 86400*/)
         or s.before_register - s.first_register >= 1000000 and not (s.first_register < 1000 and b.first_register < 1000));

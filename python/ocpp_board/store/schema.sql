@@ -152,7 +152,7 @@ create index session_changed on session (changed_hour);
 create index session_time on session (station, first_at, evse);
 create index session_site_first on session (site, first_at);
 create index session_site_last on session (site, last_day, first_at);
-create index session_lacking on session (site, station) where not complete;
+create index session_lacking on session (site, station, first_at) where not complete;
 -- A settlement period of a transaction. `on_board`: a board shows it; `shared`: what it gets if energy around its
 -- unmeasured ends is shared by time, net; null where it is measured.
 create table part (

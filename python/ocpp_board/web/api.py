@@ -29,7 +29,13 @@ from ocpp_board.limits import TRANSACTION
 from ocpp_board.store.database import Database
 from ocpp_board.web.desk import Desk, Endpoint, Request, View, Wrong, check_text, find_desk
 from ocpp_board.web.signing import Operator
-from ocpp_board.writers.bills import BillOptions, list_bills, read_month, write_csv
+from ocpp_board.writers.bills import (
+    BillOptions,
+    describe_measured,
+    list_bills,
+    read_month,
+    write_csv,
+)
 from ocpp_board.writers.calendar import find_calendar
 from ocpp_board.writers.pages.reader import read_gaps
 from ocpp_board.writers.tokens import TOKENS, hide_tokens
@@ -55,9 +61,13 @@ from site i join board_site b on b.site = i.site
 SESSION = """
 select s.station, s.transaction_id, s.site, s.sent_id, s.evse, s.events, s.first_number, s.last_number, s.complete,
     s.missing, s.gaps, s.up, s.down, s.export_up, s.export_down, s.state as lacks, s.began, s.ended, s.first_register,
-    s.last_register, s.first_export_register, s.last_export_register, s.stopped_reason, s.changed_at, t.state, t.closing
+    s.last_register, s.first_export_register, s.last_export_register, s.stopped_reason, s.changed_at, t.state,
+    t.closing, s.energy_measured, s.first_reading_at, s.last_reading_at, a.import_sum, a.export_sum, a.adjustments
 from session s join session_state t on t.station = s.station and t.transaction_id = s.transaction_id
+join adjusted_session a on a.station = s.station and a.transaction_id = s.transaction_id
 """
+FOUND = "select transaction_id, kind from all_finding where station = :station"
+HELD = "select transaction_id, kind from hold where station = :station and released_at is null"
 
 Json = dict[str, Any]
 
@@ -414,7 +424,8 @@ def list_transactions(asked: Request) -> Response:
         count=paging.rows + 1,
     )
     zones = read_zones(asked)
-    found = [write_transaction(row, zones) for row in rows if row.site in zones]
+    doubts = read_doubts(asked.store, name) if rows else Doubts({}, {})
+    found = [write_transaction(row, zones, doubts) for row in rows if row.site in zones]
     planned = asked.store.fetch_one("select site from station where station = :name", name=name)
     site = planned.site if planned else next((row.site for row in rows), "")
     if site not in zones and not found:
@@ -429,9 +440,31 @@ def read_zones(asked: Request) -> dict[str, str]:
     return {row.site: row.zone for row in rows if asked.operator.sees(row.site)}
 
 
-def write_transaction(row: Any, zones: Mapping[str, str]) -> Json:
+class Doubts(NamedTuple):
+    """The findings of transactions, and what their bills are held for, by their ids."""
+
+    found: Mapping[str, Sequence[str]]
+    held: Mapping[str, Sequence[str]]
+
+
+def read_doubts(store: Database, station: str, transaction: str | None = None) -> Doubts:
+    """What is doubtful in the transactions of a station, or in one of them."""
+    kinds = []
+    for asked in (FOUND, HELD):
+        values = {"station": station}
+        if transaction is not None:
+            asked, values = f"{asked} and transaction_id = :tx", values | {"tx": transaction}
+        found = dict[str, list[str]]()
+        for row in store.fetch(f"{asked} order by kind", **values):
+            found.setdefault(row.transaction_id, []).append(row.kind)
+        kinds.append(found)
+    return Doubts(*kinds)
+
+
+def write_transaction(row: Any, zones: Mapping[str, str], doubts: Doubts) -> Json:
     """A transaction's row."""
     zone = zones[row.site]
+    adjusted = {"adjusted_import": row.import_sum, "adjusted_export": row.export_sum}
     return {
         "transaction": row.transaction_id,
         "id_as_sent": row.sent_id,
@@ -439,10 +472,16 @@ def write_transaction(row: Any, zones: Mapping[str, str]) -> Json:
         "events": row.events,
         "first": row.first_number,
         "last": row.last_number,
-        "complete": row.complete,
+        "messages_complete": row.complete,
         "missing": row.missing,
         "lacks": row.lacks,
+        "energy_measured": describe_measured(row, lambda at: str(write_time(at, zone))),
         **write_flow(read_flow(row)),
+        "adjustments": row.adjustments,
+        **adjusted,
+        **{f"{name}_kwh": mwh / MWH_OF_A_KWH for name, mwh in adjusted.items()},
+        "findings": doubts.found.get(row.transaction_id, []),
+        "held": doubts.held.get(row.transaction_id, []),
         "state": row.state,
         "closing": row.closing,
         "started": write_time(row.began, zone),
@@ -495,7 +534,7 @@ def write_history(asked: Request, row: Any, zones: Mapping[str, str]) -> Json:
         "station": row.station,
         "site": row.site,
         "zone": zone,
-        **write_transaction(row, zones),
+        **write_transaction(row, zones, read_doubts(asked.store, row.station, row.transaction_id)),
         "gaps": [{"first": first, "last": last} for first, last in read_gaps(row.gaps)],
         "register": write_registers(row.first_register, row.last_register),
         "export_register": write_registers(row.first_export_register, row.last_export_register),

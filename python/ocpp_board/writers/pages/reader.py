@@ -396,8 +396,9 @@ class Reader:
         return {row[0]: int(row[1]) for row in rows}
 
     def count_lacking(self, site: str) -> int:
-        """How many sessions of a site are not complete."""
-        sql = "select count(*) as times from session where site = :site and not complete and events > 0"
+        """How many sessions of a site are not complete. One of which no event counts has no first moment: so the index
+        has all that is asked for."""
+        sql = "select count(first_at) as times from session where site = :site and not complete"
         return int(self.store.fetch(sql, site=site)[0][0])
 
     def count_stations(self, site: str) -> int:
