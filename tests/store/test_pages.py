@@ -69,7 +69,7 @@ def test_figures_of_a_site(store: Database, tmp_path: Path) -> None:
     (row,) = store.fetch("select * from board_site where site = 'riverside'")
     assert (row.up, row.transactions, row.complete_transactions) == (77_150_000, 4, 3)
     assert "<dt>Net</dt><dd>77.150 kWh</dd>" in site
-    assert "<dt>Of these</dt><dd>75.0% complete</dd>" in site
+    assert "<dt>Of these</dt><dd>75.0% with all messages</dd>" in site
     assert f"<dt>Missing numbers</dt><dd>{row.missing}</dd>" in site
     for one in store.fetch("select * from board_station"):
         assert f">{kwh(one.up - one.down)}</td>" in site

@@ -16,6 +16,8 @@ OWN_ORDERS = ("", *ORDERS)
 MOST_OF_A_MESSAGE = 1_024
 # Bytes of a script: after so many another one begins.
 MOST_BYTES = 32 * 1_048_576
+# The same of a script that is only answered.
+JOINED_BYTES = 8 * 1_048_576
 
 
 def count_readings(text: str) -> int:
@@ -48,9 +50,11 @@ class Use:
 
 @dataclass(slots=True)
 class Script:
-    """A script of a site's lines that grows. `order`: that of its transactions, where it is not the site's."""
+    """A script of a site's lines that grows. `order`: that of its transactions, where it is not the site's; `most`:
+    after so many bytes another one begins."""
 
     order: str = ""
+    most: int = MOST_BYTES
     uses: dict[str, Use] = field(default_factory=dict)
     lines: list[str] = field(default_factory=list)
     size: int = 0
@@ -64,7 +68,7 @@ class Script:
             use.fits()
             and (station in self.uses or len(self.uses) < MOST_STATIONS)
             and sum(one.readings for one in self.uses.values()) + readings <= MOST_READINGS
-            and self.size + size <= MOST_BYTES
+            and self.size + size <= self.most
         )
 
     def add(self, station: str, lines: Sequence[str], events: int, readings: int) -> None:
@@ -115,7 +119,7 @@ def part_scripts(
 def join_scripts(rows: Iterable[Row], order: str) -> Iterator[tuple[Script, int]]:
     """Scripts of a site's transactions, each with how many lines it has. Each row has all lines of a transaction as one
     text."""
-    script, count = Script(order), 0
+    script, count = Script(order, JOINED_BYTES), 0
     for row in rows:
         if not row.text:
             continue
@@ -126,7 +130,7 @@ def join_scripts(rows: Iterable[Row], order: str) -> Iterator[tuple[Script, int]
             readings = sum(map(count_readings, text.split("\n")))
         if not script.takes(row.station, lines, readings, len(text)):
             yield script, count
-            script, count = Script(order), 0
+            script, count = Script(order, JOINED_BYTES), 0
         script.add(row.station, [text], lines, readings)
         count += lines
     if script.lines:

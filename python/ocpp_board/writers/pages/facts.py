@@ -92,6 +92,12 @@ class SessionFacts(NamedTuple):
     token: str
     token_type: str
     holes: tuple[tuple[datetime, datetime], ...] = ()
+    # Whether readings say its energy: yes, part or no, and from when to when; the order of its readings, where an
+    # operator chose one.
+    energy_measured: str = "yes"
+    first_reading_at: datetime | None = None
+    last_reading_at: datetime | None = None
+    own_order: str = ""
 
     @property
     def seconds(self) -> float | None:

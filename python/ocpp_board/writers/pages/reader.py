@@ -37,7 +37,8 @@ TOTALS = f"transactions, complete_transactions, events, voided, missing, {FLOWS}
 SESSION = (
     "station, transaction_id, site, sent_id, evse, events, first_number, last_number, complete, missing, gaps, "
     f"{FLOWS}, state, began, ended, first_at, last_at, first_register, last_register, first_export_register, "
-    "last_export_register, stopped_reason, token, token_type, holes"
+    "last_export_register, stopped_reason, token, token_type, holes, energy_measured, first_reading_at, "
+    "last_reading_at, own_order"
 )
 REFUSED = "station, transaction_id, sent_number, cause, what, advice, times, first_at, last_at"
 DEED = "station, transaction_id, number, word, who, why, at, outcome, name"
@@ -108,6 +109,10 @@ def make_session(row: Any) -> SessionFacts:
         row.token,
         row.token_type,
         read_holes(row.holes),
+        row.energy_measured,
+        row.first_reading_at,
+        row.last_reading_at,
+        row.own_order,
     )
 
 

@@ -27,6 +27,7 @@ from ocpp_board.writers.pages.cells import (
     write_ranges,
     write_rows,
 )
+from ocpp_board.writers.bills import describe_measured
 from ocpp_board.writers.pages.context import Context
 from ocpp_board.writers.pages.facts import (
     AnsweredDeed,
@@ -87,6 +88,9 @@ def make_figures(session: SessionFacts, calendar: Calendar, tokens: str) -> list
         (head, f"{cell} kWh")
         for head, cell in zip(name_flows(exports), write_flow(session.flow, exports))
     ]
+    cells.append(("Energy measured", describe_measured(session, calendar.second)))
+    if session.own_order:
+        cells.append(("Readings", f"by {session.own_order}, as an operator chose"))
     cells.append(("EVSE", str(session.evse) if session.evse else "not named"))
     if session.gaps:
         cells.append(("Missing numbers", write_ranges(session.gaps)))

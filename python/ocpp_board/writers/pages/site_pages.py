@@ -42,7 +42,7 @@ SITES = make_columns(
     Column("Stations", "wide"),
     "Net, kWh",
     "Sessions",
-    "Complete",
+    "Messages complete",
     "Sessions that lack messages",
     "Refused messages",
     " Data up to",
@@ -64,7 +64,7 @@ def make_figures(totals: Totals) -> list[Figure]:
     rows.append(("Sessions", f"{totals.transactions:,}", False))
     if complete:
         lacks = totals.complete < totals.transactions
-        rows.append(("Of these", f"{complete} complete", lacks))
+        rows.append(("Of these", f"{complete} with all messages", lacks))
     return rows + [
         ("Missing numbers", f"{totals.missing:,}", totals.missing > 0),
         ("Voided events", f"{totals.voided:,}", totals.voided > 0),
@@ -236,7 +236,7 @@ def make_station_columns(exports: bool) -> list[Column]:
     return make_columns(
         "Station",
         "Net, kWh",
-        "Complete",
+        "Messages complete",
         Column("Sessions", "wide"),
         "Missing numbers",
         *(Column(f"{head}, kWh", "wide") for head in name_flows(exports)[1:]),
