@@ -149,7 +149,7 @@ A b
 
 
 def test_pages_have_few_words() -> None:
-    words = {page.name: sum(map(count_words, read_lines(page.read_text()))) for page in pages()}
+    words = {str(page): sum(map(count_words, read_lines(page.read_text()))) for page in pages()}
     assert 10_000 < sum(words.values()) <= MOST_OF_ALL, words
 
 
