@@ -124,7 +124,7 @@ def look(store: Database, case: Case) -> Seen:
     for row in store.fetch("select station, transaction_id from hold where released_at is null"):
         seen.held.add(find_name(row.station, row.transaction_id, case))
     for row in store.fetch(PERIODS):
-        seen.periods[f"{row.starts:%dT%H:%M}"] = row.imported / 1000, bool(row.estimated)
+        seen.periods[f"{row.starts:%dT%H:%M}"] = float(row.imported) / 1000, bool(row.estimated)
     for row in store.fetch("select * from refusal"):
         if not getattr(row, "decision", ""):
             seen.waiting += 1

@@ -172,7 +172,7 @@ create view evse_finding as
     from one_meter group by site, station, before_id
     union all
     select site, station, transaction_id, 'more power than before', 1, first_at,
-        (peak_w / 1000) || ' kW, and at most ' || (usual / 1000) || ' kW in nine of ten other sessions'
+        ((peak_w + 500) / 1000) || ' kW, and at most ' || ((usual + 500) / 1000) || ' kW in nine of ten other sessions'
     from power_step
     union all
     select s.site, r.station, r.transaction_id, 'refused messages wait', count(*), min(r.first_at),
