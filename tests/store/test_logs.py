@@ -103,7 +103,7 @@ def test_rows_of_citrineos_as_csv() -> None:
     for _ in range(2):
         assert form.read("timestamp,stationId,origin,message\n") is None
     assert form.read('t,A,csms,"[2,""1""]"\n') == Entry(None, "A", "t", '[2,"1"]', False)
-    with pytest.raises(Refused, match="not as many cells"):
+    with pytest.raises(Refused, match="more or fewer cells"):
         form.read("t,A\n")
     with pytest.raises(UsageError, match="names no column message, timestamp"):
         CitrineCsvForm().read("stationId,origin\n")
