@@ -76,7 +76,9 @@ def test_a_backup_with_its_log(servers: tuple[Cluster, Cluster]) -> None:
     archive = first.folder / "archive"
     archive.mkdir()
     shutil.chown(archive, first.user.pw_uid, first.user.pw_gid)
-    first.start(archive_mode="on", archive_command=f"cp %p {archive}/%f", archive_timeout=1)
+    # A file has its name once it is whole: a restore may look for it before.
+    keep = f"cp %p {archive}/%f.part && mv {archive}/%f.part {archive}/%f"
+    first.start(archive_mode="on", archive_command=keep, archive_timeout=1)
     name = fill_store(first.create("ledger"))
     send(name, "a", 10)
     copy_files(first, second)
