@@ -149,6 +149,16 @@ def run(store_name: str, line: str) -> tuple[int, str]:
     return int(status), said.read()
 
 
+def run_proposed(store_name: str, line: str) -> tuple[int, str]:
+    """Runs the commands that a command proposes."""
+    status, said = run(store_name, line)
+    proposed = [one.strip() for one in said.splitlines() if one.startswith("  ocpp-board ")]
+    for one in proposed:
+        done, more = run(store_name, re.sub(r"^ocpp-board | --store \S+", "", one))
+        status, said = max(status, done), said + more
+    return (status, said) if proposed else (-1, f"nothing is proposed: {said}")
+
+
 def compare_sessions(case: Case, seen: Seen) -> list[tuple[Verdict, str]]:
     """What is wrong with the sessions before any remedy."""
     found = list[tuple[Verdict, str]]()
@@ -220,7 +230,8 @@ def judge(case: Case, store_name: str, folder: Path) -> Judged:
         before = look(store, case)
     wrong += compare_sessions(case, before) + compare_periods(case, before)
     for line, wanted in zip(case.remedy, case.status or [0] * len(case.remedy)):
-        status, said = run(store_name, line.format(dir=folder))
+        own = line.removeprefix("sh: ").format(dir=folder)
+        status, said = (run if own == line.format(dir=folder) else run_proposed)(store_name, own)
         if status != wanted:
             wrong.append((Verdict.ADVICE, f"`{line}` ended with {status}: {said.strip()}"))
     with open_store(store_name) as store:
@@ -259,5 +270,5 @@ def compare_after(case: Case, before: Seen, after: Seen) -> list[tuple[Verdict, 
 
 def name_command(line: str) -> str:
     """The command of a line, as advice names it."""
-    words = line.split()
+    words = line.removeprefix("sh: ").split()
     return " ".join(words[:2]) if words[0] in ("adjust", "operate", "plan") else words[0]

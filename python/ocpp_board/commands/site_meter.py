@@ -39,7 +39,7 @@ def run(words: argparse.Namespace) -> int:
         rows = list(compare_main(store, words.site, rules.period, bounds["begin"], bounds["end"]))
     writer = csv.writer(sys.stdout, lineterminator="\n")
     writer.writerow(HEADS)
-    for starts, main, taken in rows:
-        energies = map(write_kwh, (main, taken, main - taken))
-        writer.writerow([write_moment(starts), *energies])
+    for one in rows:
+        energies = map(write_kwh, (one.main, one.taken, one.losses))
+        writer.writerow([write_moment(one.starts), *energies])
     return Status.DONE

@@ -23,6 +23,7 @@ from ocpp_board.gateway.lookouts import Clerk, Gatherer, Lookout, Served
 from ocpp_board.gateway.metrics import Repeated, serve_figures
 from ocpp_board.gateway.pace import Pace
 from ocpp_board.gateway.settler import KEEP_REFUSED
+from ocpp_board.limits import SILENT_HOURS
 from ocpp_board.passwords import Password
 from ocpp_board.gateway.station_socket import (
     HANDSHAKE,
@@ -75,7 +76,7 @@ class Options:
     proxy: list[str] = field(default_factory=list)
     metrics: tuple[str, int] | None = None
     # Hours after which a session that lacks messages is silent.
-    silent: int = 24
+    silent: int = SILENT_HOURS
 
 
 class Gateway:

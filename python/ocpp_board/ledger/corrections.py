@@ -11,6 +11,7 @@ from ocpp_board.ledger.engine import settle
 from ocpp_board.ledger.program import Program
 from ocpp_board.ledger.rows import Rows, Work, work_out
 from ocpp_board.messages.corrected import correct_reading
+from ocpp_board.messages.exact import read_exact, write_exact
 from ocpp_board.messages.meter_values import JSON
 from ocpp_board.records import DELIVER, Asked, Deed, Line, Message
 from ocpp_board.store.database import Database
@@ -127,6 +128,8 @@ def correct_text(came: Came | None, one: Correction) -> Came:
             f"{one.where}: event {one.number} of {name} has no reading {one.place} of the {side} register; places "
             "begin at 0"
         )
+    if corrected == write_exact(read_exact(came.text)):
+        raise InputError(f"{one.where}: this reading of event {one.number} of {name} is so already")
     return came._replace(text=corrected)
 
 

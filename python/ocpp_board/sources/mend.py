@@ -104,7 +104,7 @@ def read_fault(text: str) -> tuple[str, Fault]:
         return fault, Fault(wh=int(more))
     if fault == EVSE and EVSES.fullmatch(more):
         pairs = [one.split(":") for one in more.split(",")]
-        if all(1 <= int(meant) <= MOST_EVSES for _, meant in pairs):
+        if all(1 <= int(meant) <= MOST_EVSES < int(sent) for sent, meant in pairs):
             return fault, Fault(evses=tuple((int(sent), int(meant)) for sent, meant in pairs))
     if fault in HINT and fault != NO_OFFSET and not more:
         return fault, Fault()
@@ -184,11 +184,11 @@ class Mender:
     """Mends messages of sites as is declared, and counts them."""
 
     def __init__(self, mends: Mends, find_begin: FindBegin | None = None) -> None:
-        """`find_begin`: where the beginnings of sessions are known; else those of messages that came are."""
+        """`find_begin`: where the beginnings of sessions are known whose Started event was not seen."""
         self.mends = mends
         # By site and fault, how many messages were mended.
         self.counts = Counter[tuple[str, str]]()
-        self.find_begin = find_begin or self.find_seen
+        self.find_begin = find_begin
         self.begins = OrderedDict[tuple[str, str], str]()
 
     def find_seen(self, station: str, transaction: str) -> str | None:
@@ -251,7 +251,9 @@ class Mender:
             self.begins[station, transaction.lower()] = payload["timestamp"]
             if len(self.begins) > KEPT_BEGINS:
                 self.begins.popitem(last=False)
-        begin = self.find_begin(station, transaction) if kind == "Ended" else None
+        begin = self.find_seen(station, transaction) if kind == "Ended" else None
+        if kind == "Ended" and begin is None and self.find_begin:
+            begin = self.find_begin(station, transaction)
         if begin is None:
             return False
         end, values = seconds_of(payload["timestamp"]), list[Any]()

@@ -5,6 +5,7 @@ from collections.abc import Iterable, Mapping, Sequence
 from markupsafe import Markup
 
 from ocpp_board.energies import kwh
+from ocpp_board.writers.bills import describe_measured
 from ocpp_board.writers.calendar import Calendar
 from ocpp_board.writers.pages.cells import (
     MARK,
@@ -45,9 +46,11 @@ def write_finding(one: Found) -> Markup:
     return join([flag(one.kind + times), *([one.detail] if one.detail else [])], ": ")
 
 
-def write_state(session: SessionFacts, findings: Sequence[Found]) -> Markup:
-    """Writes whether a session is complete, what is missing of it, and what is doubtful."""
-    doubts = [write_finding(one) for one in findings]
+def write_state(session: SessionFacts, findings: Sequence[Found], calendar: Calendar) -> Markup:
+    """Writes whether all messages of a session came, which lack, whether its energy is measured, and what is
+    doubtful."""
+    measured = f"energy measured: {describe_measured(session, calendar.second)}"
+    doubts = [measured, *(write_finding(one) for one in findings)]
     if not session.gaps:
         return stack(session.state or "no event counts", *doubts)
     missing = f"{count(session.missing, 'number')} missing: {write_ranges(session.gaps)}"
@@ -89,7 +92,7 @@ def make_session_row(
     has_export: bool,
     has_station: bool = False,
 ) -> TableRow:
-    """Makes the row of a session; one that is not complete or doubtful is marked."""
+    """Makes the row of a session; one that lacks messages or is doubtful is marked."""
     net, *others = write_flow(session.flow, has_export)
     href = links.session(session.site, session.station, session.transaction_id)
     cells: list[str] = [link(href, session.sent_id)]
@@ -98,7 +101,7 @@ def make_session_row(
     both = (
         wrap_time(calendar.second(at)) if at else UNKNOWN for at in (session.began, session.ended)
     )
-    cells += [write_state(session, findings), stack(*both)]
+    cells += [write_state(session, findings, calendar), stack(*both)]
     cells += [write_duration(session.seconds) or UNKNOWN]
     cells += [str(session.evse) if session.evse else "not named", net]
     cells += [write_registers(session.registers), *others]

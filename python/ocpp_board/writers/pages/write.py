@@ -3,7 +3,8 @@
     index.html                              all sites
     SITE/index.html                         a site
     SITE/YYYY-MM.html, SITE/YYYY-MM-DD.html a month, a day
-    SITE/stations.html, findings.html, lacking.html, refused.html, deeds.html, closings.html
+    SITE/stations.html, findings.html, lacking.html, silent.html, refused.html, deeds.html, closings.html,
+        site-meter.html                     the lists of a site
     SITE/closing-NUMBER.html                a closing
     SITE/STATION/index.html                 a station, and its months and days as a site's
     SITE/STATION/session-ID.html            a transaction
@@ -23,6 +24,7 @@ from typing import NamedTuple
 from markupsafe import Markup
 
 from ocpp_board.store.database import Database, open_again
+from ocpp_board.store.values import find_main_span
 from ocpp_board.writers.calendar import Calendar, find_calendar
 from ocpp_board.writers.copies import share_work
 from ocpp_board.writers.pages.closing_pages import make_closing_page
@@ -31,6 +33,7 @@ from ocpp_board.writers.pages.day_book import DayBook
 from ocpp_board.writers.pages.day_pages import MOST_STATIONS, make_day_page, make_station_day_page
 from ocpp_board.writers.pages.facts import (
     Found,
+    LeftOut,
     SessionFacts,
     SessionRecord,
     Site,
@@ -51,7 +54,7 @@ PATHS = FilePaths()
 KEPT_SESSIONS, MOST_SESSION_DAYS = 20_000, 62
 # The names of pages of a site's folder.
 OURS = re.compile(
-    r"(index|stations|findings|lacking|refused|deeds|closings|closing-\d+|session-.*|\d{4}-\d\d(-\d\d)?)(\.\d+)?\.html"
+    rf"(index|{'|'.join(LISTS)}|closing-\d+|session-.*|\d{{4}}-\d\d(-\d\d)?)(\.\d+)?\.html"
 )
 
 # A station and a transaction of it, or None where only what was refused of the station changed.
@@ -63,6 +66,14 @@ class Share(NamedTuple):
 
     site: Site
     station: str | None
+
+
+class Others(NamedTuple):
+    """What pages of a site show that changes without a change of a transaction."""
+
+    silent: Sequence[object]
+    main: object
+    left_out: Sequence[LeftOut]
 
 
 class PageWriter:
@@ -80,6 +91,8 @@ class PageWriter:
         self.deeds = dict[tuple[str, str], int]()
         # By site, the last closing that has a page.
         self.closings = dict[str, int]()
+        # By site, what its pages show that changes without a change of a transaction.
+        self.others = dict[str, Others]()
         self.written = find_now(options)
         self.count = 0
 
@@ -240,6 +253,31 @@ class PageWriter:
                 self.write_list(site, "closings")
         return self.count
 
+    def write_others(self) -> int:
+        """Writes what changed without a change of a transaction, and gives how many pages: sessions that became silent,
+        periods of main meters, stations that are left out. Raises OSError."""
+        self.count, self.written = 0, find_now(self.options)
+        sites, is_new = self.reader.sites(), False
+        for site in sites:
+            context = self.open_context(PATHS.site(site.name))
+            silent = self.reader.silent(site.name, context.find_silent(), MOST_SILENT)
+            has = Others(
+                [(one.station, one.transaction_id, one.gaps, at) for one, at in silent],
+                find_main_span(self.store, site.name),
+                self.reader.left_out(site.name),
+            )
+            had, self.others[site.name] = self.others.get(site.name), has
+            if had is None or had.silent != has.silent:
+                self.write_list(site, "silent")
+            if had is None or had.main != has.main:
+                self.write_list(site, "site-meter")
+            if had is None or had.left_out != has.left_out:
+                self.write_site(site)
+                is_new = True
+        if is_new:
+            self.write_index(sites, ())
+        return self.count
+
     def write_session(
         self,
         site: Site,
@@ -381,6 +419,8 @@ class PageWriter:
 
 
 MOST_SPAN_LINES = 600
+# Silent sessions that are looked at for changes.
+MOST_SILENT = 2_000
 
 
 def write_file(path: str, data: bytes) -> None:
