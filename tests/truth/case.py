@@ -50,9 +50,9 @@ class Case:
     `truth`: what each session really imported, by station and id; `periods`: what station A took in periods by their
     beginnings, where that is part of the truth; `found`: the findings that have to be there, by session (or station),
     with a part of their details; `fine`: findings that may be there besides; `refused`: how many texts wait for a
-    decision; `remedy`: commands of `ocpp-board` without `--store`, whose statuses are those of `status`, or 0, and behind
-    `sh:` one whose proposed commands are run; `after`:
-    what sessions have then, where that is not the truth; `rules`: what the plan has of the site.
+    decision; `remedy`: commands of `ocpp-board` without `--store`, whose statuses are those of `status`, or 0 (behind
+    `sh:` one whose proposed commands are run); `after`: what sessions have then, where that is not the truth; `rules`:
+    what the plan has of the site.
 
     Messages come to the store, then those of `raw`; or `log` is written to {dir}/log as JSON lines, and the commands of
     `setup` take it. `files`: others of that folder, each of a short line or a text. `unplanned`: stations that the plan

@@ -11,7 +11,6 @@ from ocpp_board.ledger.engine import settle
 from ocpp_board.ledger.program import Program
 from ocpp_board.ledger.rows import Rows, Work, work_out
 from ocpp_board.messages.corrected import correct_reading
-from ocpp_board.messages.exact import read_exact, write_exact
 from ocpp_board.messages.meter_values import JSON
 from ocpp_board.records import DELIVER, Asked, Deed, Line, Message
 from ocpp_board.store.database import Database
@@ -41,13 +40,15 @@ class Came(NamedTuple):
 
 
 class Prepared(NamedTuple):
-    """A session's corrections: what is to be asked of the ledger, and its rows before and after."""
+    """A session's corrections: what is to be asked of the ledger, and its rows before and after; whether a message is
+    another one then."""
 
     station: str
     transaction: str
     asked: list[Asked]
     before: Rows
     after: Rows
+    is_other: bool = True
 
 
 def prepare(
@@ -76,6 +77,7 @@ def prepare_session(
         )
     (stored,) = read_lines(store, [(station, transaction)])
     texts, asked = find_texts(stored), list[Asked]()
+    came = dict(texts)
     now = datetime.now(timezone.utc)
     for one in wanted:
         texts[one.number] = correct_text(texts.get(one.number), one)
@@ -95,7 +97,8 @@ def prepare_session(
                 f"{wanted[0].where}: transaction {transaction} of {station} would not take the correction: "
                 f"{answer.name or answer.reply or answer.outcome}"
             )
-    return Prepared(station, transaction, asked, had.rows, done.rows)
+    is_other = any(texts[one.number] != came[one.number] for one in wanted)
+    return Prepared(station, transaction, asked, had.rows, done.rows, is_other)
 
 
 def find_texts(lines: Sequence[Line]) -> dict[int, Came]:
@@ -128,8 +131,6 @@ def correct_text(came: Came | None, one: Correction) -> Came:
             f"{one.where}: event {one.number} of {name} has no reading {one.place} of the {side} register; places "
             "begin at 0"
         )
-    if corrected == write_exact(read_exact(came.text)):
-        raise InputError(f"{one.where}: this reading of event {one.number} of {name} is so already")
     return came._replace(text=corrected)
 
 

@@ -51,8 +51,8 @@ class Kind(Enum):
     RESET = (
         "register reset or exchanged",
         "The register reads less than before and stays there: the meter was reset or exchanged within the session, "
-        "and its energy is too low by what was lost. Declare it by `adjust exchange`: `adjust propose` has the line, by "
-        "which the session has its rises before and after. Put in what the two meters read, if you know it; then "
+        "and its energy is too low by what was lost. Declare it by `adjust exchange`: `adjust propose` has the line, "
+        "by which the session has its rises before and after. Put in what the two meters read, if you know it; then "
         "`release` the session.",
         Effect.WRONG,
         True,

@@ -139,6 +139,8 @@ def preview_correction(store: Database, words: Words, who: str) -> Preview | Non
         (one,) = prepare(store, find_program(), [wanted], Author(who, words.why))
     except InputError as fault:
         raise Wrong(HTTPStatus.CONFLICT, str(fault)) from None
+    if not one.is_other:
+        raise Wrong(HTTPStatus.CONFLICT, "the reading is so already")
     site, rules = found
     return Preview(site, "accepted", "", compare_rows(one.before, one.after, rules.zone), one)
 

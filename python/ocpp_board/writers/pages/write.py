@@ -137,6 +137,7 @@ class PageWriter:
         self.write_index(sites)
         for site in sites:
             remove_old(f"{self.out}/{PATHS.scope(site.name, None)}", begun)
+            self.others[site.name] = self.find_others(site)
         return self.count
 
     def open_copy(self) -> Callable[[Share], int]:
@@ -253,30 +254,36 @@ class PageWriter:
                 self.write_list(site, "closings")
         return self.count
 
+    def find_others(self, site: Site) -> Others:
+        """Finds what pages of a site show that changes without a change of a transaction."""
+        context = self.open_context(PATHS.site(site.name))
+        silent = self.reader.silent(site.name, context.find_silent(), MOST_SILENT)
+        return Others(
+            silent, find_main_span(self.store, site.name), self.reader.left_out(site.name)
+        )
+
     def write_others(self) -> int:
         """Writes what changed without a change of a transaction, and gives how many pages: sessions that became silent,
         periods of main meters, stations that are left out. Raises OSError."""
         self.count, self.written = 0, find_now(self.options)
-        sites, is_new = self.reader.sites(), False
-        for site in sites:
-            context = self.open_context(PATHS.site(site.name))
-            silent = self.reader.silent(site.name, context.find_silent(), MOST_SILENT)
-            has = Others(
-                [(one.station, one.transaction_id, one.gaps, at) for one, at in silent],
-                find_main_span(self.store, site.name),
-                self.reader.left_out(site.name),
-            )
-            had, self.others[site.name] = self.others.get(site.name), has
-            if had is None or had.silent != has.silent:
-                self.write_list(site, "silent")
-            if had is None or had.main != has.main:
-                self.write_list(site, "site-meter")
-            if had is None or had.left_out != has.left_out:
-                self.write_site(site)
-                is_new = True
-        if is_new:
+        sites = self.reader.sites()
+        if any([self.write_other_lists(site) for site in sites]):
             self.write_index(sites, ())
         return self.count
+
+    def write_other_lists(self, site: Site) -> bool:
+        """Writes the lists of a site that have changed, and its page where other stations are left out; whether it
+        did."""
+        has, had = self.find_others(site), self.others.get(site.name)
+        self.others[site.name] = has
+        if had is None or had.silent != has.silent:
+            self.write_list(site, "silent")
+        if had is None or had.main != has.main:
+            self.write_list(site, "site-meter")
+        if had is not None and had.left_out == has.left_out:
+            return False
+        self.write_site(site)
+        return True
 
     def write_session(
         self,
@@ -401,6 +408,7 @@ class PageWriter:
         if any(show_troubles(before.get(name)) != show_troubles(after[name]) for name in names):
             self.write_list(site, "findings")
             self.write_list(site, "lacking")
+        self.write_other_lists(site)
         if any(tx is None for _, tx in changed):
             self.write_list(site, "refused")
         if any(self.has_deeds(station, tx) for station, tx in changed if tx is not None):
