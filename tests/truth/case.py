@@ -56,7 +56,8 @@ class Case:
 
     Messages come to the store, then those of `raw`; or `log` is written to {dir}/log as JSON lines, and the commands of
     `setup` take it. `files`: others of that folder, each of a short line or a text. `unplanned`: stations that the plan
-    does not have. `shows`: what commands print in the end, as expressions that have to be found. `is_alarm`: a right
+    does not have. `shows`: what commands print in the end, as expressions that have to be found; `written`: what files
+    of the folder have then. `is_alarm`: a right
     number is called wrong, since nothing could know better; `is_advised`: what is advised names the remedy.
     """
 
@@ -81,6 +82,7 @@ class Case:
     unplanned: tuple[str, ...] = ()
     status: tuple[int, ...] = ()
     shows: tuple[tuple[str, str], ...] = ()
+    written: tuple[tuple[str, str], ...] = ()
     is_alarm: bool = False
     is_advised: bool = True
 

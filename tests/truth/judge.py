@@ -98,6 +98,7 @@ def plan(store: Database, case: Case, sent: list[Sent]) -> None:
             write_station(store, station, SITE, AUTHOR)
         quota = {name: case.rules.get(name, 0) for name in ("most_open", "most_bytes")}
         store.execute("update site set most_open = :most_open, most_bytes = :most_bytes", **quota)
+        store.execute("update site set mends = :mends", mends=case.rules.get("mends", ""))
 
 
 def find_name(station: str, transaction: str, case: Case) -> str:
@@ -241,6 +242,10 @@ def judge(case: Case, store_name: str, folder: Path) -> Judged:
         _, said = run(store_name, line.format(dir=folder))
         if not re.search(shown, said, re.MULTILINE):
             wrong.append((Verdict.SILENT, f"`{line}` does not show {shown!r}:\n{said}"))
+    for name, shown in case.written:
+        text = (folder / name).read_text("utf-8") if (folder / name).exists() else ""
+        if not re.search(shown, text, re.MULTILINE):
+            wrong.append((Verdict.SILENT, f"{name} does not have {shown!r}:\n{text[:3_000]}"))
     order = list(Verdict)
     wrong.sort(key=lambda one: order.index(one[0]))
     verdict = wrong[0][0] if wrong else Verdict.RIGHT

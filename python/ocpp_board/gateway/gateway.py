@@ -87,7 +87,7 @@ class Gateway:
         self.name = f"{os.uname().nodename}-{os.getpid()}-{secrets.token_hex(4)}"
         words = [options.store, *([KEEP_REFUSED] if options.keep_refused else [])]
         self.lanes = Lanes(words, options.lanes, options.patience)
-        # The subprotocols that are offered, the best first.
+        # The subprotocols that there are.
         self.protocols = [PROTOCOL, *([PILOT] if options.pilot else [])]
         self.clerk = Clerk(options.store)
         self.finder = Gatherer(self.clerk, stations.find_stations)

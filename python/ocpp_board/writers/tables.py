@@ -6,6 +6,7 @@
     SITE/refused.csv        what was refused, with cause and advice
     SITE/operator.csv       the operators' lines with who, when, why, and the answer
     SITE/mended.csv         the messages that were mended
+    SITE/site_meter.csv     the main meter (EVSE 0 of MeterValues) against the sum of the EVSEs, by period
     SITE/signed/            the first and the last signed value of each transaction that has some
     refused.csv             messages of stations that no site has, and lines that name no station
 
@@ -39,6 +40,7 @@ from ocpp_board.messages.bills import (
     write_signed,
 )
 from ocpp_board.store.database import Database, Row, count_days
+from ocpp_board.store.values import Compared, compare_main, find_main_span
 from ocpp_board.writers.bills import describe_measured
 from ocpp_board.writers.calendar import MOMENT, Calendar, find_calendar
 from ocpp_board.writers.files import name_file
@@ -76,6 +78,7 @@ REFUSED = [
 ]
 OPERATOR = ["time (UTC)", "who", "what", "site", "station", "transaction", "seqNo", "why", "answer"]
 MENDED = ["time (UTC)", "site", "station", "transaction", "seqNo", "mended", "as it came"]
+METER = ["start (UTC)", "site meter (kWh)", "EVSEs (kWh)", "losses (kWh)"]
 REFUSED_ORDER = "order by first_at, station, sent_id, number, cause, what"
 SESSION_ORDER = "order by coalesce(t.place, 0), s.station, s.transaction_id"
 # How the figure of a period was come by, where no register says it.
@@ -182,7 +185,8 @@ class TableWriter:
         one.write_transactions()
         one.write_findings()
         one.write_signed()
-        return 3 + one.write_refused() + one.write_operator() + one.write_mended()
+        others = one.write_refused() + one.write_operator() + one.write_mended()
+        return 3 + others + one.write_meter()
 
     def write_strays(self) -> int:
         """Writes what was refused of no site, where there is some, and gives whether there is."""
@@ -196,6 +200,11 @@ class TableWriter:
 def write_utc(at: datetime | None) -> str:
     """The cell of a moment in UTC; empty where it is not known."""
     return at.strftime(MOMENT) if at else ""
+
+
+def write_compared(one: Compared) -> list[Cell]:
+    """The cells of a period of a main meter."""
+    return [write_utc(one.starts), *map(write_kwh, (one.main, one.taken, one.losses))]
 
 
 def write_some(path: Path, heads: Sequence[str], rows: Iterable[Iterable[Cell]]) -> int:
@@ -569,6 +578,16 @@ class SiteTables:
             site=self.site.site,
         )
         return write_some(self.path("mended"), MENDED, map(self.write_mend, rows))
+
+    def write_meter(self) -> int:
+        """Writes the table of the main meter, where it was read, and gives whether it was. Raises OSError."""
+        seconds = self.site.period
+        span = find_main_span(self.store, self.site.site)
+        if span is None:
+            return write_some(self.path("site_meter"), METER, ())
+        begin = span[0] - timedelta(seconds=span[0].timestamp() % seconds)
+        rows = compare_main(self.store, self.site.site, seconds, begin, span[1])
+        return write_some(self.path("site_meter"), METER, map(write_compared, rows))
 
     def write_mend(self, row: Row) -> list[Cell]:
         """The cells of a mended message."""
