@@ -65,7 +65,7 @@ CASES = [
             ("out/north/lacking.html", "from its first reading on"),
             (
                 "out/north/silent.html",
-                "<time>2026-03-01 10:15:01</time>.*from .*10:00:00.* to .*10:15:00.* only",
+                "<time>2026-03-01 10:15:01</time>.*from .*10:00</time> to .*10:15</time> only",
             ),
         ),
     ),

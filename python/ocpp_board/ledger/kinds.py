@@ -150,9 +150,9 @@ class Kind(Enum):
     )
     NO_READING = (
         "no counted reading",
-        "The session is complete and has no reading of energy, so it shows 0 kWh. Declare its energy by `adjust "
-        "estimate --register meter-values` where MeterValues of its EVSE are around it (`estimates` lists them), else "
-        "by `adjust credit`, as the log or the meter says.",
+        "All messages of the session came, and none has a reading of energy, so it shows 0 kWh. Declare its energy by "
+        "`adjust estimate --register meter-values` where MeterValues of its EVSE are around it (`estimates` lists "
+        "them), else by `adjust credit`, as the log or the meter says.",
         Effect.LACKS,
         False,
     )

@@ -5,7 +5,6 @@ from markupsafe import Markup
 from ocpp_board.energies import kwh
 from ocpp_board.writers.calendar import Calendar
 from ocpp_board.writers.causes import describe_causes
-from ocpp_board.writers.bills import describe_measured
 from ocpp_board.writers.pages.cells import (
     MARK,
     UNKNOWN,
@@ -17,6 +16,7 @@ from ocpp_board.writers.pages.cells import (
 )
 from ocpp_board.writers.pages.context import Context
 from ocpp_board.writers.pages.facts import Closing, Correction, Settled, Site
+from ocpp_board.writers.pages.sessions import write_measured
 from ocpp_board.writers.tables import ESTIMATED
 
 # Corrections and sessions that a page shows.
@@ -87,7 +87,7 @@ def make_settled_row(context: Context, site: Site, one: Settled) -> TableRow:
             link(links.station(site.name, one.station), one.station),
             "messages complete" if one.settled == "complete" else "by rule",
             kwh(one.flow.net),
-            describe_measured(one, calendar.second),
+            write_measured(one, calendar),
             kwh(one.flow.net + one.adjusted) if one.adjusted else UNKNOWN,
             f"{one.findings:,}",
             f"{one.holds:,}",

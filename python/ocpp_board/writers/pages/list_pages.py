@@ -9,7 +9,6 @@ from markupsafe import Markup
 
 from ocpp_board.energies import kwh
 from ocpp_board.store.values import compare_main, find_main_span
-from ocpp_board.writers.bills import describe_measured
 from ocpp_board.writers.calendar import Calendar
 from ocpp_board.writers.pages.cells import (
     MARK,
@@ -33,6 +32,7 @@ from ocpp_board.writers.pages.facts import (
     StationSummary,
 )
 from ocpp_board.writers.pages.kinds import explain, find_place
+from ocpp_board.writers.pages.sessions import write_measured
 from ocpp_board.writers.pages.site_pages import (
     has_export,
     make_station_columns,
@@ -173,7 +173,7 @@ def list_silent(context: Context, site: Site, _stations: Stations, first: int) -
         site.name, context.find_silent(), LIST_ROWS + 1, first
     ):
         cells = [*write_lacking(context, site, one, heard_at), kwh(one.flow.up - one.flow.down)]
-        rows.append(TableRow([*cells, describe_measured(one, calendar.second)], MARK))
+        rows.append(TableRow([*cells, write_measured(one, calendar)], MARK))
     return Listing(SILENT, *split(rows))
 
 

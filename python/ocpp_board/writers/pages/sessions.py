@@ -5,7 +5,6 @@ from collections.abc import Iterable, Mapping, Sequence
 from markupsafe import Markup
 
 from ocpp_board.energies import kwh
-from ocpp_board.writers.bills import describe_measured
 from ocpp_board.writers.calendar import Calendar
 from ocpp_board.writers.pages.cells import (
     MARK,
@@ -24,7 +23,7 @@ from ocpp_board.writers.pages.cells import (
     write_flow,
     write_ranges,
 )
-from ocpp_board.writers.pages.facts import Found, SessionFacts
+from ocpp_board.writers.pages.facts import Found, SessionFacts, Settled
 from ocpp_board.writers.pages.links import Links
 from ocpp_board.writers.pages.pictures import draw_strip
 
@@ -46,10 +45,20 @@ def write_finding(one: Found) -> Markup:
     return join([flag(one.kind + times), *([one.detail] if one.detail else [])], ": ")
 
 
+def write_measured(session: SessionFacts | Settled, calendar: Calendar) -> str:
+    """Writes whether the energy of a session is measured: yes, from when to when only, or no."""
+    if session.energy_measured != "part":
+        return session.energy_measured
+    ends = session.first_reading_at, session.last_reading_at
+    return Markup("from %s to %s only") % tuple(
+        wrap_time(calendar.minute(at)) if at else UNKNOWN for at in ends
+    )
+
+
 def write_state(session: SessionFacts, findings: Sequence[Found], calendar: Calendar) -> Markup:
     """Writes whether all messages of a session came, which lack, whether its energy is measured, and what is
     doubtful."""
-    measured = f"energy measured: {describe_measured(session, calendar.second)}"
+    measured = join(["energy measured", write_measured(session, calendar)], ": ")
     doubts = [measured, *(write_finding(one) for one in findings)]
     if not session.gaps:
         return stack(session.state or "no event counts", *doubts)
