@@ -19,15 +19,6 @@ from ocpp_board.store.database import Database, count_days, open_store
 
 QUARTER = timedelta(minutes=15)
 BEGIN = datetime(2026, 1, 1, tzinfo=timezone.utc)
-SESSION = (
-    "station, transaction_id, site, lines, evse, events, voided, first_number, last_number, complete, missing, gaps, "
-    "up, state, began, ended, first_at, last_at, last_day, first_register, last_register, stopped_reason, sent_id, token, "
-    "token_type, received_until, changed_at, energy_measured, first_reading_at, last_reading_at, peak_w"
-)
-PART = (
-    "station, transaction_id, starts, up, down, export_up, export_down, on_board, measured, shared, "
-    "numbers_missing"
-)
 ROWS_AT_ONCE = 20_000
 
 

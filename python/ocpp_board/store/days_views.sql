@@ -90,9 +90,9 @@ from (
 create view session_doubt as
 select s.station, s.transaction_id,
     (select count(*) from finding f where f.station = s.station and f.transaction_id = s.transaction_id)
-    + (select count(*) from evse_change c where c.station = s.station and c.transaction_id = s.transaction_id)
+    + (select count(*) from evse_doubt c where c.station = s.station and c.transaction_id = s.transaction_id)
     + (select count(*) from evse_next n where n.station = s.station and n.transaction_id = s.transaction_id and n.next_at >= n.last_at)
-    + s.overlaps + s.meters + s.powers
+    + s.meters + s.powers
     + case when s.events > 0 and exists (
             select 1 from refusal r where r.station = s.station and r.transaction_id = s.transaction_id and r.decision = '')
         then 1 else 0 end as findings,
@@ -113,7 +113,8 @@ select s.station, s.transaction_id,
             select 1 from good_release r where r.station = s.station and r.transaction_id = s.transaction_id and r.kind = 'earlier lines are in a file')) as holds
 from (
     select s.station, s.transaction_id, s.events,
-        (select count(*) from evse_overlap o where o.station = s.station and o.transaction_id = s.transaction_id) as overlaps,
+        (select count(*) from evse_doubt o where o.station = s.station and o.transaction_id = s.transaction_id
+            and o.kind = 'sessions overlap') as overlaps,
         (select count(*) from one_meter m where m.station = s.station and m.transaction_id = s.transaction_id)
         + (select count(*) from one_meter m where m.station = s.station and m.before_id = s.transaction_id) as meters,
         (select count(*) from power_step p where p.station = s.station and p.transaction_id = s.transaction_id and p.usual is not null) as powers

@@ -55,37 +55,34 @@ create view evse_next as
         order by l.first_at, l.transaction_id limit 1)
     where s.ended is null and s.evse <> 0 and s.events > 0;
 
--- How far the register of an EVSE rose or fell from one transaction to the next, where the one before was over: it
--- rose by 10 Wh at least, and by more than 100 Wh a day, which a cabinet may take, and the one before has its end; or
--- it fell by 1 kWh at least, and does not begin at 0 in each transaction. Registers are also there in Wh.
-create view evse_change as
-    select site, station, transaction_id, began, last_day, first_at, before_id, first_register - before_last as mwh,
+-- Each transaction of an EVSE whose register does not go on from the one before it. It rose between them, where the one
+-- before has its end, by 10 Wh at least and by more than 100 Wh a day, which a cabinet may take; it fell by 1 kWh at
+-- least, and does not begin at 0 in each; or the two overlap, and have energy of one register. `wh`: by how much.
+create view evse_doubt as
+    select site, station, transaction_id, began, last_day, first_at, before_id,
+        case when first_at < before_last_at then 'sessions overlap'
+            when first_register > before_last then 'register rose between sessions'
+            else 'meter exchanged between sessions' end as kind,
         (before_last + 500) / 1000 as had_wh, (first_register + 500) / 1000 as has_wh,
-        (abs(first_register - before_last) + 500) / 1000 as abs_wh
+        (case when first_at >= before_last_at then abs(first_register - before_last)
+            when last_register < before_last then last_register - first_register
+            else before_last - first_register end + 500) / 1000 as wh
     from evse_step
-    where first_at >= before_last_at
-        and (before_ended is not null and first_register - before_last >= 10000
+    where first_at < before_last_at
+            and (first_register > before_first or first_register = before_first and first_register >= 1000)
+            and first_register < before_last - 10000 and last_register > first_register + 10000
+        or first_at >= before_last_at and before_ended is not null and first_register - before_last >= 10000
             and first_register - before_last > 100000
             * (/*sqlite julianday(first_at) - julianday(before_last_at)*/
             /*postgresql extract(epoch from first_at - before_last_at) / 86400*/)
-        or before_last - first_register >= 1000000 and not (first_register < 1000 and before_first < 1000));
-
--- Each transaction of an EVSE that begins while the one before it runs, where both have energy of one register: by how
--- much they overlap.
-create view evse_overlap as
-    select site, station, transaction_id, began, last_day, first_at, before_id,
-        (case when last_register < before_last then last_register else before_last end - first_register + 500) / 1000
-            as wh
-    from evse_step
-    where first_at < before_last_at
-        and (first_register > before_first or first_register = before_first and first_register >= 1000)
-        and first_register < before_last - 10000 and last_register > first_register + 10000;
+        or first_at >= before_last_at and before_last - first_register >= 1000000
+            and not (first_register < 1000 and before_first < 1000);
 
 -- Transactions of two EVSEs of a station, one after the other, that ran at the same time with registers of one meter:
 -- the second one begins within what the first one reads, and one of them ends within what the other one reads.
 create view one_meter as
     select s.site, s.station, s.transaction_id, s.began, s.last_day, s.first_at, b.transaction_id as before_id,
-        b.began as before_began, b.last_day as before_last_day, b.first_at as before_first_at
+        b.site as before_site, b.began as before_began, b.last_day as before_last_day, b.first_at as before_first_at
     from session s join session b on b.station = s.station and s.first_at >= b.first_at and s.first_at < b.last_at
     where b.transaction_id = (
             select l.transaction_id from session l
@@ -150,39 +147,30 @@ create view session_finding as
         coalesce(s.began, s.first_at) as began_at, s.last_day
     from finding f join session s on s.station = f.station and s.transaction_id = f.transaction_id
     union all
-    select site, station, transaction_id,
-        case when mwh > 0 then 'register rose between sessions' else 'meter exchanged between sessions' end,
-        1, first_at,
-        case when mwh > 0 then
-            /*sqlite printf('%,d.%03d', abs_wh / 1000, abs_wh % 1000)*/
-            /*postgresql to_char(abs_wh / 1000.0, 'FM999,999,990.000')*/
-            || ' kWh between ' || before_id || ' and ' || transaction_id
-        else /*sqlite printf('%,d.%03d', had_wh / 1000, had_wh % 1000)*/
+    select site, station, transaction_id, kind, 1, first_at,
+        case when kind = 'meter exchanged between sessions' then
+            /*sqlite printf('%,d.%03d', had_wh / 1000, had_wh % 1000)*/
             /*postgresql to_char(had_wh / 1000.0, 'FM999,999,990.000')*/
             || ' kWh at the end of ' || before_id || ', '
             || /*sqlite printf('%,d.%03d', has_wh / 1000, has_wh % 1000)*/
-            /*postgresql to_char(has_wh / 1000.0, 'FM999,999,990.000')*/
-            || ' kWh here: ' || /*sqlite printf('%,d.%03d', abs_wh / 1000, abs_wh % 1000)*/
-            /*postgresql to_char(abs_wh / 1000.0, 'FM999,999,990.000')*/
-            || ' kWh less'
-        end, coalesce(began, first_at), last_day
-    from evse_change
+            /*postgresql to_char(has_wh / 1000.0, 'FM999,999,990.000')*/ || ' kWh here: '
+        else '' end
+        || /*sqlite printf('%,d.%03d', wh / 1000, wh % 1000)*/ /*postgresql to_char(wh / 1000.0, 'FM999,999,990.000')*/
+        || case kind when 'sessions overlap' then ' kWh also in ' || before_id
+            when 'register rose between sessions' then ' kWh between ' || before_id || ' and ' || transaction_id
+            else ' kWh less' end,
+        coalesce(began, first_at), last_day
+    from evse_doubt
     union all
     select site, station, transaction_id, 'no end, and a later session began', 1, next_at, next_id || ' began',
         coalesce(began, first_at), last_day
     from evse_next where next_at >= last_at
     union all
-    select site, station, transaction_id, 'sessions overlap', 1, first_at,
-        /*sqlite printf('%,d.%03d', wh / 1000, wh % 1000)*/
-            /*postgresql to_char(wh / 1000.0, 'FM999,999,990.000')*/
-            || ' kWh also in ' || before_id, coalesce(began, first_at), last_day
-    from evse_overlap
-    union all
     select site, station, transaction_id, 'two EVSEs with one meter', 1, first_at, 'with ' || before_id,
         coalesce(began, first_at), last_day
     from one_meter
     union all
-    select site, station, before_id, 'two EVSEs with one meter', 1, first_at, 'with ' || transaction_id,
+    select before_site, station, before_id, 'two EVSEs with one meter', 1, first_at, 'with ' || transaction_id,
         coalesce(before_began, before_first_at), before_last_day
     from one_meter
     union all
