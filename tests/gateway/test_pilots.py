@@ -6,8 +6,11 @@ import urllib.request
 from collections.abc import Callable
 
 from ocpp_board.cli import main
+from ocpp_board.feed.keeper import Keeper
+from ocpp_board.records import Message
 from ocpp_board.store.database import open_store
 from tests.gateway.client import (
+    BEGIN,
     ask,
     connect_station,
     find_status,
@@ -161,3 +164,29 @@ def test_a_gateway_mends_what_the_plan_declares(make_store: Make) -> None:
         assert [
             row.number for row in store.fetch("select number from line where transaction_id = 'u'")
         ] == [1, 2]
+
+
+def test_a_feed_mends_what_the_plan_declares(make_store: Make) -> None:
+    name = make_store()
+    assert main(["plan", "--store", name, "mend", "depot", "ids", "--why", "vendor"]) == 0
+    text = make_event("t", 0).replace('"transactionId":"t"', '"transactionId":"{ t }"')
+    keeper = Keeper(name)
+    keeper.keep([Message("CS-0", text, BEGIN, "a feed")], lambda _seconds: None)
+    assert keeper.outcomes == {"accepted": 1, "mended ids": 1}
+    assert main(["plan", "--store", name, "mend", "depot", "--why", "the vendor's update"]) == 0
+    keeper.keep([Message("CS-0", text, BEGIN, "a feed")], lambda _seconds: None)
+    assert keeper.outcomes["mended ids"] == 1 and keeper.outcomes["refused"] == 1
+
+
+def test_mends_that_can_not_be(make_store: Make) -> None:
+    name = make_store()
+    words = ["plan", "--store", name, "mend"]
+    for more in (
+        ["depot", "units"],
+        ["depot", "unit", "unit"],
+        ["nowhere", "unit"],
+        ["depot", "evse:1:2"],
+    ):
+        assert main([*words, *more, "--why", "vendor"]) == 1
+    with open_store(name) as store:
+        assert [row.mends for row in store.fetch("select mends from site")] == [""]

@@ -280,7 +280,7 @@ class PageWriter:
             self.write_list(site, "silent")
         if had is None or had.main != has.main:
             self.write_list(site, "site-meter")
-        if had is not None and had.left_out == has.left_out:
+        if (had.left_out if had else []) == has.left_out:
             return False
         self.write_site(site)
         return True
