@@ -87,6 +87,7 @@ class Renewer:
             self.options, until=until or self.options.until
         )
         if self.mark is None:
+            self.find_changed(now)  # What is written now is not found again.
             self.pages += self.writer.write_all()
             self.write_all_tables()
             self.write_mark(now)

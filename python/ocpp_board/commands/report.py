@@ -31,6 +31,7 @@ from ocpp_board.commands.options import add_log_options, add_store, choose_progr
 from ocpp_board.commands.reading import Batch, BatchReader, Meter, ReadOptions
 from ocpp_board.errors import InputError
 from ocpp_board.ledger.mending import describe_mended
+from ocpp_board.ledger.program import find_program
 from ocpp_board.ledger.settlers import Settlers
 from ocpp_board.ledger.verify import verify
 from ocpp_board.processes import leave_interrupts, pause_collector
@@ -330,6 +331,7 @@ def run(words: argparse.Namespace) -> int:
     """Does what the words ask for, and gives the exit status."""
     options = choose_options(words.parser, words)
     choose_program(words.program)
+    find_program()  # That there is none is said before anything is read.
     with name_store(options.store) as name:
         with open_store(name, is_durable=options.store is not None) as store:
             return write_report(options, name, store)
