@@ -5,10 +5,15 @@ import json
 import urllib.request
 from collections.abc import Callable
 
+import pytest
+
 from ocpp_board.cli import main
+from ocpp_board.errors import InputError
 from ocpp_board.feed.keeper import Keeper
+from ocpp_board.ledger.mending import write_mends
 from ocpp_board.records import Message
 from ocpp_board.store.database import open_store
+from ocpp_board.store.plan import Author
 from tests.gateway.client import (
     BEGIN,
     ask,
@@ -179,14 +184,13 @@ def test_a_feed_mends_what_the_plan_declares(make_store: Make) -> None:
 
 
 def test_mends_that_can_not_be(make_store: Make) -> None:
-    name = make_store()
-    words = ["plan", "--store", name, "mend"]
-    for more in (
-        ["depot", "units"],
-        ["depot", "unit", "unit"],
-        ["nowhere", "unit"],
-        ["depot", "evse:1:2"],
-    ):
-        assert main([*words, *more, "--why", "vendor"]) == 1
-    with open_store(name) as store:
+    with open_store(make_store()) as store:
+        for site, faults in (
+            ("depot", ["units"]),
+            ("depot", ["unit", "unit"]),
+            ("nowhere", ["unit"]),
+            ("depot", ["evse:1:2"]),
+        ):
+            with pytest.raises(InputError, match="plan mend"):
+                write_mends(store, site, faults, Author("tests", "a test"))
         assert [row.mends for row in store.fetch("select mends from site")] == [""]

@@ -3,6 +3,7 @@
 import argparse
 from typing import Any
 
+from ocpp_board.commands.plan import add_word
 from ocpp_board.ledger.mending import write_mends
 from ocpp_board.sources.mend import ABOUT
 from ocpp_board.statuses import Status
@@ -17,14 +18,10 @@ store keeps it as it came. Without a fault nothing is mended any more."""
 
 def add_plan_words(group: Any) -> None:
     """The word of `plan`."""
-    parser: argparse.ArgumentParser = group.add_parser(
-        "mend", help="mends faults of a site's stations", description=DESCRIPTION
-    )
+    parser = add_word(group, "mend", "mends faults of a site's stations", change_mends)
+    parser.description = DESCRIPTION
     parser.add_argument("site", metavar="SITE")
     parser.add_argument("faults", nargs="*", metavar="FAULT")
-    parser.add_argument("--why", required=True, metavar="REASON", help="the reason, which is kept")
-    parser.add_argument("--who", help="who asks for it (default: the user of this session)")
-    parser.set_defaults(change=change_mends)
 
 
 def change_mends(store: Database, words: argparse.Namespace, author: Author) -> int:

@@ -26,8 +26,8 @@ class Kind(Enum):
     )
     MORE_POWER = (
         "more power than before",
-        "The register rose faster than in nearly all other sessions of the station. If the station can give so much, "
-        "say so by `plan station --most-kw`; else correct the wrong reading by `operate correct`.",
+        "The register rose faster than in nearly all of the station's sessions around it. If the station can give so "
+        "much, say so by `plan station --most-kw`; else correct the wrong reading by `operate correct`.",
         Effect.WRONG,
         True,
     )

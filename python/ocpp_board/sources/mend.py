@@ -246,6 +246,8 @@ class Mender:
 
     def date_begin(self, station: str, payload: dict[str, Any]) -> bool:
         """Gives a Transaction.Begin that an end lists with its own time the time of the start; whether it did."""
+        if "transactionInfo" not in payload:
+            return False
         transaction, kind = payload["transactionInfo"]["transactionId"], payload["eventType"]
         if kind == "Started":
             self.begins[station, transaction.lower()] = payload["timestamp"]
@@ -338,7 +340,7 @@ def drop_untimed(payload: dict[str, Any], _fault: Fault) -> bool:
 
 def date_by_receipt(payload: dict[str, Any], at: str) -> bool:
     """Gives an event whose time is none from 2000 to 2099 that of its receipt, and all its readings; whether it did."""
-    if OUT_OF_RANGE not in (fault_of(payload["timestamp"]) or ""):
+    if "timestamp" not in payload or OUT_OF_RANGE not in (fault_of(payload["timestamp"]) or ""):
         return False
     payload["timestamp"] = at
     for value in payload.get("meterValue") or ():
@@ -362,7 +364,9 @@ def raise_negative(payload: dict[str, Any], fault: Fault) -> bool:
 
 def trim_ids(payload: dict[str, Any], _fault: Fault) -> bool:
     """Takes blanks and braces out of a transaction's id; whether it had some."""
-    info = payload["transactionInfo"]
+    info = payload.get("transactionInfo")
+    if info is None:
+        return False
     had = info["transactionId"]
     info["transactionId"] = re.sub(r"[\s{}]", "", had)
     return bool(had != info["transactionId"])
@@ -396,19 +400,10 @@ CHANGES: dict[str, Callable[[dict[str, Any], Fault], bool]] = {
 def part_readings(payload: dict[str, Any]) -> list[dict[str, Any]]:
     """An Ended event with more readings than a message may have as several events: its number and those behind it, the
     last of them the end. Any other message as it is."""
-    values = payload.get("meterValue") or []
     count = sum(1 for _ in list_counted(payload))
     if count <= MOST_READINGS or payload.get("eventType") != "Ended":
         return [payload]
-    pieces: list[list[Any]] = [[]]
-    size = 0
-    for value in values:
-        own = sum(1 for _ in list_counted({"meterValue": [value]}))
-        if size + own > MOST_READINGS:
-            pieces.append([])
-            size = 0
-        pieces[-1].append(value)
-        size += own
+    pieces = part_values(payload["meterValue"])
     first = int(payload["seqNo"])
     found = []
     for place, piece in enumerate(pieces):
@@ -416,6 +411,24 @@ def part_readings(payload: dict[str, Any]) -> list[dict[str, Any]]:
         number = Number(first + place)
         found.append(payload | {"eventType": kind, "seqNo": number, "meterValue": piece})
     return found
+
+
+def part_values(values: Iterable[dict[str, Any]]) -> list[list[dict[str, Any]]]:
+    """Meter values in pieces, each with at most as many readings as a message may have."""
+    pieces, size = [list[dict[str, Any]]()], 0
+    for value in values:
+        own: dict[str, Any] | None = None
+        for sampled in value["sampledValue"]:
+            is_counted = measurand_of(sampled) in (IMPORT, EXPORT)
+            if is_counted and size == MOST_READINGS:
+                pieces.append([])
+                own, size = None, 0
+            if own is None:
+                own = value | {"sampledValue": []}
+                pieces[-1].append(own)
+            own["sampledValue"].append(sampled)
+            size += is_counted
+    return pieces
 
 
 def write_comment(faults: Iterable[str], station: str, message: str) -> bytes:
