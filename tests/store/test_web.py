@@ -310,7 +310,8 @@ def test_a_correction(web: Web) -> None:
     set_password(web.store, "mia", PASSWORD, AUTHOR)
     reader, other = web.sign_in("ann"), web.sign_in("mia")
     assert reader.ask("/operate", form)[0] == 403
-    assert other.ask("/operate", form)[0] == 404
+    # Nothing says to the other one whether there is such an event.
+    assert [other.ask("/operate", form | {"number": one})[0] for one in ("3", "99")] == [404, 404]
     assert browser.ask("/operate/do", dict(fields) | {"kwh": "1001"})[0] == 403
     assert web.store.fetch(asked, tx=SESSION) == [before]
     status, page = browser.ask("/operate/do", dict(fields))

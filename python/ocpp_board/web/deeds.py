@@ -21,7 +21,7 @@ from ocpp_board.ledger.rows import Rows, Work, work_out
 from ocpp_board.limits import GREATEST_SEQ_NO, TRANSACTION, is_name
 from ocpp_board.messages.message_faults import REMEDIES
 from ocpp_board.messages.texts import one_line
-from ocpp_board.records import DEEDS, DELIVER, Deed, Line
+from ocpp_board.records import DEEDS, DELIVER, Deed, Line, Rules
 from ocpp_board.store.database import Database
 from ocpp_board.store.lines import read_lines, read_refusals
 from ocpp_board.store.plan import Author, find_session_rules
@@ -98,7 +98,7 @@ class Words(NamedTuple):
 
     def write(self) -> str:
         """The operator's line."""
-        return " ".join([self.word, self.station, self.transaction, self.number, self.name()])
+        return f"{self.word} {self.station} {self.transaction} {self.number} {self.name()}".rstrip()
 
     def name(self) -> str:
         """What a reading is corrected to; empty of another deed."""
@@ -125,31 +125,27 @@ class Preview:
     prepared: Prepared | None = None
 
 
-def preview_correction(store: Database, words: Words, who: str) -> Preview | None:
-    """What a correction will change; nothing is written. None where the store has no such transaction. Raises Wrong
-    where it can't be done."""
-    found = find_session_rules(store, words.station, words.transaction.lower())
-    if found is None:
-        return None
+def preview_correction(
+    store: Database, words: Words, author: Author, site: str, rules: Rules
+) -> Preview:
+    """What a correction will change of a transaction with these rules; nothing is written. Raises Wrong where it can't
+    be done."""
     reading = int(words.number), int(words.place), read_mwh(words.kwh)
     wanted = Correction(
         words.station, words.transaction, *reading, words.register == REGISTERS[1], "this"
     )
     try:
-        (one,) = prepare(store, find_program(), [wanted], Author(who, words.why))
+        (one,) = prepare(store, find_program(), [wanted], author)
     except InputError as fault:
         raise Wrong(HTTPStatus.CONFLICT, str(fault)) from None
     if not one.is_other:
         raise Wrong(HTTPStatus.CONFLICT, "the reading is so already")
-    site, rules = found
     return Preview(site, "accepted", "", compare_rows(one.before, one.after, rules.zone), one)
 
 
-def preview(store: Database, words: Words, who: str = "") -> Preview | None:
+def preview(store: Database, words: Words) -> Preview | None:
     """What a deed will change, by the program over the stored lines; nothing is written. None where the store has no
     such transaction."""
-    if words.word == CORRECT:
-        return preview_correction(store, words, who)
     key = words.station, words.transaction.lower()
     found = find_session_rules(store, *key)
     if found is None:
@@ -230,13 +226,17 @@ def ask_words(asked: Request) -> Response:
 
 def find_preview(asked: Request, words: Words) -> Preview:
     """What a deed will change. Raises Wrong where the operator sees no such transaction."""
-    found = preview(asked.store, words, asked.operator.name)
-    if found is None or not asked.operator.sees(found.site):
-        raise Wrong(
-            HTTPStatus.NOT_FOUND,
-            f"there is no transaction {words.transaction!r} of station {words.station!r}, or not for you",
-        )
-    return found
+    found = find_session_rules(asked.store, words.station, words.transaction.lower())
+    if found is not None and asked.operator.sees(found[0]):
+        if words.word == CORRECT:
+            author = Author(asked.operator.name, words.why)
+            return preview_correction(asked.store, words, author, *found)
+        if one := preview(asked.store, words):
+            return one
+    raise Wrong(
+        HTTPStatus.NOT_FOUND,
+        f"there is no transaction {words.transaction!r} of station {words.station!r}, or not for you",
+    )
 
 
 @open_view(OPERATOR)
