@@ -45,7 +45,7 @@ def test_session(store: Database) -> None:
     assert answers[0].reply == '[3,"T1-0",{}]'
     (row,) = store.fetch("select * from session")
     assert (row.site, row.lines, row.events, row.complete, row.missing) == ("north", 5, 5, True, 0)
-    assert (row.up, row.down, row.state, row.sent_id) == (1_000_000, 0, "complete", "T1")
+    assert (row.up, row.down, row.state, row.sent_id) == (1_000_000, 0, "messages complete", "T1")
     assert (row.first_register, row.last_register) == (1_000_000, 2_000_000)
     assert (row.began, row.first_at) == (START, START)
     parts = store.fetch("select starts, up, measured from part order by starts")
@@ -151,7 +151,7 @@ def test_deeds(store: Database) -> None:
     late = message("CS-01", write_event("T1", 1, "Updated", 15, [(15, 1_300)]))
     assert list_outcomes(ask(store, late)) == ["accepted"]
     (row,) = store.fetch("select * from session")
-    assert (row.events, row.voided, row.complete, row.state) == (4, 0, True, "complete")
+    assert (row.events, row.voided, row.complete, row.state) == (4, 0, True, "messages complete")
 
 
 def test_all_voided(store: Database) -> None:

@@ -39,6 +39,7 @@ from ocpp_board.commands.report import count_of
 from ocpp_board.errors import InputError, StoreError, UsageError
 from ocpp_board.escapes import shown, without_controls
 from ocpp_board.ledger.engine import settle, take_strays
+from ocpp_board.ledger.mending import count_mended, describe_mended
 from ocpp_board.ledger.settlers import Settlers
 from ocpp_board.limits import GREATEST_SEQ_NO
 from ocpp_board.messages.texts import Refused
@@ -145,7 +146,7 @@ def choose_options(parser: argparse.ArgumentParser, words: argparse.Namespace) -
         parser.error("--source names one log")
     plan = replace(choose_plan(parser, words), stations=None)
     asked = (
-        Shown(words.out, words.every, words.oldest, TableOptions(words.tokens))
+        Shown(words.out, words.every, words.oldest, TableOptions(words.tokens), words.silent)
         if words.out
         else None
     )
@@ -390,6 +391,7 @@ class Follow:
             answers = settle(self.store, records, also=note)
             for record, answer in zip(records, answers):
                 self.loader.note(record.station, answer)
+            self.loader.counts += count_mended(answers)
 
         while not self.attempt(settle_once) and not self.is_ending:
             self.wait(TRIED)
@@ -518,6 +520,8 @@ class Follow:
             if not one.reader.has_form():
                 log.error("no line of %s is of the form %s", one.path, one.shape.name)
                 status = Status.REPORTED
+        if said := describe_mended(self.loader.counts):
+            log.info("messages mended as the plan declares: %s", said)
         if self.renewer:
             pages, tables = self.renewer.pages, self.renewer.tables
             log.info("%s and %s were written", count_of(pages, "page"), count_of(tables, "table"))

@@ -17,6 +17,7 @@ from typing import Any, NamedTuple, Protocol
 from ocpp_board.errors import InputError
 from ocpp_board.ledger.answers import Wish
 from ocpp_board.ledger.course import Course
+from ocpp_board.ledger.mending import mend_asked, note_mends
 from ocpp_board.ledger.program import find_program
 from ocpp_board.ledger.quotas import (
     FLOODS,
@@ -60,6 +61,7 @@ from ocpp_board.store.plan import (
     write_power,
     write_site,
 )
+from ocpp_board.store.values import estimate_parts, find_near
 
 # An origin that is a place in a file, such as `csms.log:17`.
 PLACE = re.compile(r"(?!.*://).*:[0-9]+")
@@ -136,7 +138,8 @@ def settle(
     within the database transaction, right before its commit; `warm`: what this process stored last; `guard`: is held
     together with a SQLite file, where several processes settle at once, and all that can be is computed before.
     """
-    batch = Batch(asked, ask_program(asked, pool))
+    put = mend_asked(store, asked)
+    batch = Batch(put.asked, ask_program(put.asked, pool))
     sort_asked(batch)
     find_strangers(store, batch)
     if batch.sessions or batch.refusals or batch.others or batch.mended or also:
@@ -148,7 +151,9 @@ def settle(
         if warm is not None:
             for key, one in kept.items():
                 warm.keep(key, one)
-    return [batch.answers[place] for place in range(len(asked))]
+    answers = put.join([batch.answers[place] for place in range(len(batch.asked))])
+    note_mends(asked, answers, put)
+    return answers
 
 
 # What is asked -------------------------------------------------------------------------------------------------------
@@ -229,7 +234,7 @@ def sort_message(batch: Batch, place: int, one: Message, wish: Wish) -> None:
     if is_left_out(one.text, cause):
         batch.answers[place] = Answer("reply", cause, reply)
         return
-    refusal = describe_message(one.text, cause, one.received)
+    refusal = describe_message(one.came or one.text, cause, one.received)
     batch.refusals.append((one, refusal, refusal.sent_id.lower()))
     batch.answers[place] = Answer(wish.outcome if reply is None else "refused", cause, reply)
 
@@ -271,18 +276,26 @@ def write_batch(
     deeds = find_done(store, batch)
     batch.answers |= deeds
     works = make_works(store, batch, held, deeds, planned)
-    writer, kept = Writer(store), dict[Key, Kept]()
+    writer, kept, unmeasured = Writer(store), dict[Key, Kept](), set[Key]()
     for key, work, done in work_on(works, pool, foreseen):
         take_answers(store, batch, work, done, held[key], deeds)
         if now := write_rows(writer, work, held[key], done):
             kept[key] = now
+        if is_unmeasured(done):
+            unmeasured.add(key)
     writer.write()
     write_refusals(store, batch)
     write_decided(store, batch)
     write_strays(store, batch)
     write_mended(store, batch)
-    write_levels(store, batch, sites)
+    estimate_parts(store, unmeasured | write_levels(store, batch, sites))
     return kept
+
+
+def is_unmeasured(done: Done) -> bool:
+    """Whether a transaction was written that is over and whose readings do not say its energy."""
+    session = done.rows.session if done.rows else None
+    return session is not None and session.ended is not None and session.energy_measured != "yes"
 
 
 def make_works(
@@ -403,7 +416,7 @@ def refuse_message(batch: Batch, place: int, name: str) -> None:
     """Answers a message that is above the quota of this name."""
     one = batch.asked[place]
     assert isinstance(one, Message)
-    refusal = describe_message(one.text, name, one.received)
+    refusal = describe_message(one.came or one.text, name, one.received)
     batch.refusals.append((one, refusal, refusal.sent_id.lower()))
     batch.answers[place] = Answer("refused", name, write_reply(one.text, name))
 
@@ -521,7 +534,7 @@ def take_answers(
         if isinstance(one, Deed):
             write_deed(store, one, answer)
         elif isinstance(one, Message) and answer.outcome in ("refused", "fault"):
-            refusal = describe_message(one.text, answer.name, one.received)
+            refusal = describe_message(one.came or one.text, answer.name, one.received)
             batch.refusals.append((one, refusal, key[1]))
     if held.refusals or batch.mended:
         taken = [
@@ -682,9 +695,10 @@ def write_mended(store: Database, batch: Batch) -> None:
         store.execute_each(store_lines.ADD_MENDED, rows)
 
 
-def write_levels(store: Database, batch: Batch, sites: dict[str, str]) -> None:
-    """Adds what registers read in MeterValues outside transactions."""
-    found = dict[tuple[str, int], list[tuple[datetime, int]]]()
+def write_levels(store: Database, batch: Batch, sites: dict[str, str]) -> set[Key]:
+    """Adds what registers read in MeterValues outside transactions, and gives the transactions of which they may say
+    more than readings do."""
+    found, near = dict[tuple[str, int], list[tuple[datetime, int]]](), set[Key]()
     for one in batch.others:
         evse, levels = read_levels(one.text) if one.station in sites else (0, [])
         for level in levels:
@@ -692,6 +706,9 @@ def write_levels(store: Database, batch: Batch, sites: dict[str, str]) -> None:
             found.setdefault((one.station, evse), []).append((at, level.mwh))
     for (station, evse), some in sorted(found.items()):
         store_lines.merge_level(store, station, evse, some)
+        if evse:
+            near.update(find_near(store, station, evse, min(some)[0], max(some)[0]))
+    return near
 
 
 # The plan ------------------------------------------------------------------------------------------------------------
@@ -750,10 +767,13 @@ def renew_sessions(
     for key, one in held.items():
         own = own_rules(rules[one.site], one.own_order, powers.get(key[0]))
         works[key] = Work(*key, one.site, own, one.lines, [], list_conflicts(key, one), True)
-    writer = Writer(store)
+    writer, unmeasured = Writer(store), set[Key]()
     for key, work, done in work_on(works, None):
         write_rows(writer, work, held[key], done)
+        if is_unmeasured(done):
+            unmeasured.add(key)
     writer.write()
+    estimate_parts(store, unmeasured)
 
 
 def order_session(

@@ -12,6 +12,7 @@ from zlib import crc32
 
 from ocpp_board.errors import StoreAway
 from ocpp_board.ledger.engine import settle
+from ocpp_board.ledger.mending import count_mended
 from ocpp_board.processes import leave_interrupts, pause_collector
 from ocpp_board.records import Asked, Deed, Message, Untaken
 from ocpp_board.store.database import Database, open_store
@@ -42,7 +43,7 @@ def settle_own(packed: Packed) -> Counter[str]:
     with pause_collector():
         asked = [KINDS[place]._make(values) for place, values in packed]
         answers = settle(Settler.store, asked, guard=Settler.guard)
-        return Counter(one.outcome for one in answers)
+        return Counter(one.outcome for one in answers) + count_mended(answers)
 
 
 class Pending:

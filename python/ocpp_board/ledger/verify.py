@@ -180,7 +180,7 @@ def compare_site(store: Database, site: str, board: Board) -> int:
         name: values for name, values in shown.items() if name in stations or values != nothing
     }
     figures += compare(f"site {site}, station", (*COUNTS, *FLOW), planned, stations)
-    asked = f"select starts, {flows} from board_site_period where site = :site"
+    asked = f"select starts, {flows} from board_site_period where site = :site and shown = 1"
     figures += compare(
         f"site {site}, period",
         FLOW,
@@ -198,7 +198,7 @@ def compare_site(store: Database, site: str, board: Board) -> int:
             for evse, flow in part.evses.items()
         },
     )
-    asked = f"select station, starts, {flows} from board_period where site = :site"
+    asked = f"select station, starts, {flows} from board_period where site = :site and shown = 1"
     figures += compare(
         f"site {site}, station and period",
         FLOW,

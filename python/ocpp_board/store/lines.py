@@ -32,7 +32,7 @@ SENT = [
     for name in ("stopped_reason", "sent_id", "token", "token_type", "remote_start_id", "signed")
 ]
 LAST_AT = SESSION.index("last_at")
-PART = "starts up down export_up export_down on_board measured shared numbers_missing".split()
+PART = "starts up down export_up export_down on_board measured shared by_values numbers_missing".split()
 FINDING = "kind times first_at detail".split()
 OF_SESSION = "station = :station and transaction_id = :transaction"
 # Texts of a station that sends too much which are kept each; further ones are one row.
