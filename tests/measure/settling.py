@@ -26,7 +26,7 @@ from tests.store.cluster import run_cluster
 from tests.store.scene import check, plan
 from tests.traffic.script import FIRST, START, kind_of, message
 
-STATIONS, ROUNDS, LAST = 60, 3, 40
+STATIONS, ROUNDS, LAST = 60, 3, 200
 SITE_SECONDS, RISE = 60, 50
 
 
