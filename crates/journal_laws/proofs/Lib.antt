@@ -1,0 +1,2 @@
+mod Accepted
+pub mod CutJournals
