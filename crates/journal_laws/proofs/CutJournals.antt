@@ -1,55 +1,13 @@
 -- A journal that was cut at any byte and marked loses no line, and has no line `listen`.
-use Rattle.std.{proofs.Common.{◌≡◌, ◌≢◌, ℕ, zero, suc, ◌+◌, ◌-◌, ◌<◌, ◌≤◌, Bool, true, false, cond, not, eqb, leb, List, [], ◌∷◌, ◌++◌, Option, None, Some, All, length, take, drop, ◌⊎◌, inl, inr, refl, sym, ap, subst, ◌∙◌, arith, append_assoc, append-nil, length-append}, specs.Prelude.{◌&&◌, ◌||◌, ◌==◌, ⊤, codes}, specs.Io.BufRead.{ends_with_byte, strip_last}, specs.List.ends_with, specs.Str.is_utf8, proofs.lemmas.Bool.cases_lt, proofs.lemmas.Bool.Decides.nat_tests, proofs.lemmas.List.{drop_at, take-append-le}, proofs.lemmas.List.Elements.{All-append, All-cons, All-head, All-nil, All-tail, All-take}, proofs.Math.Seq.take-append_seam}
-use Rattle.kept_desk.{specs.declared.entry.Entry.Entry, specs.Entries.{IsNote, entry_text, line_text, text_of}, specs.Speaking.{AsksFor, Says, Speaks}}
-use Rattle.ledger_model.{specs.declared.answer.Answer.Answer, specs.declared.answer.Answer.TheVariants.Accepted, specs.declared.command.Command.Command, specs.declared.command.Command.TheVariants.Deliver, specs.Step.answer, specs.World.{World, world_after}}
-use Rattle.script_lines.{specs.LineMeaning.{LineMeaning, nothing, fails, sets_limits, declares, sets_period, sets_order, sets_settle, tells, sends, delivers, commands, asks_energy, asks_export, asks_total, asks_board, lists, asks_meaning, marks, line_meaning}, specs.Lines.{HasNoFeed, Line, ended, lines_of, unended}, specs.Ranges.longest_line, specs.Texts.{answer_text, delivered_line, ended_line}, specs.declared.script_line.LineFault.TheVariants.BadLine, proofs.Cuts.cut-ended}
-use Rattle.script_ledgers.{specs.Drafts.planned_world, specs.Running.filled, specs.Script.{Script, by_meaning, commanded_to, delivered_to, line_step, script_after, sent_to, start, station_named, step_by, told_by}, proofs.Places.neither}
-use Rattle.site_desk.{specs.declared.plan.SitePlan.SitePlan, specs.declared.plan.StationPlan.StationPlan, specs.Cell.Cell}
+use Rattle.std.{proofs.Common.{◌≡◌, ◌≢◌, ℕ, zero, suc, ◌+◌, ◌-◌, ◌<◌, ◌≤◌, Bool, true, false, cond, not, eqb, leb, List, [], ◌∷◌, ◌++◌, None, Some, All, length, take, drop, inl, inr, refl, sym, ap, subst, ◌∙◌, arith, append_assoc, append-nil, length-append}, specs.Prelude.{◌&&◌, ◌||◌, ◌==◌, codes}, specs.Io.BufRead.{ends_with_byte, strip_last}, specs.List.ends_with, proofs.lemmas.Bool.cases_lt, proofs.lemmas.Bool.Decides.nat_tests, proofs.lemmas.List.{drop_at, take-append-le}, proofs.lemmas.List.Elements.{All-head, All-nil, All-tail, All-take}, proofs.Math.Seq.take-append_seam}
+use Rattle.kept_desk.{specs.declared.entry.Entry.Entry, specs.Entries.{IsNote, entry_text, line_text, text_of}, specs.Speaking.{Says, Speaks}}
+use Rattle.ledger_model.{specs.declared.answer.Answer.TheVariants.Accepted, specs.declared.command.Command.Command, specs.Step.answer}
+use Rattle.script_lines.{specs.LineMeaning.{LineMeaning, nothing, fails, sets_limits, declares, sets_period, sets_order, sets_settle, tells, sends, delivers, commands, asks_energy, asks_export, asks_total, asks_board, lists, asks_meaning, marks, line_meaning}, specs.Lines.{HasNoFeed, Line, ended, lines_of, unended}, specs.Ranges.longest_line, specs.Texts.{answer_text, delivered_line, ended_line}, proofs.Cuts.cut-ended}
+use Rattle.script_ledgers.{specs.Drafts.planned_world, specs.Running.filled, specs.Script.{Script, by_meaning, commanded_to, delivered_to, line_step, script_after, sent_to, start, station_named, step_by, told_by}}
+use Rattle.site_desk.{specs.declared.plan.StationPlan.StationPlan}
 use Rattle.transaction_event.specs.Reply.{event_reply_bytes}
-use Rattle.journal_script.{specs.Cuts.{BeginsNext, HasWhole, IsMark, restore_mark, run_begins}, specs.Journals.{EndsWhole, IsSpoken, station_name}, specs.Restoring.{is_cut, is_lost, is_marked, leaves_nothing, loses, marked_by, run_line}, proofs.Cuts.{All-drop, Marks, front_of, one_line, open_part, marks as marks_are, whole_lines}, proofs.LastByte.{ends_so, keeps_last, last, last_behind}, proofs.LinesRead.both_whole, proofs.Notes.{comment_feedless, comment_says, note_after, note_whole}, proofs.Steps.{cut_entry, takes_line}, proofs.Whole.{after_both, lines_apart}}
-use Rattle.journal_laws.{specs.Restores.{AreTaken, CutJournalsRestore, HasRoom, IsKept}, proofs.Accepted.{AreTakenBy, IsTakenBy, taken_by_world, taken_front}}
-
--- ---- lines that are kept
-
--- These lines lose nothing, and none is `listen`.
-record Kept (s : Script) (lines : List Line) : Type 0 where
-  loses_none : loses s lines ≡ false
-  no_listen : All (λ line. line ≢ Some (codes "listen")) lines
-
-loses_both : (s : Script) (one other : List Line) → loses s one ≡ false → loses (script_after s one) other ≡ false → loses s (one ++ other) ≡ false
-loses_both s [] other e f = f
-loses_both s (line ∷ one) other e f =
-    let both = neither (is_lost (line_step s line).1 line) (loses (line_step s line).0 one) e in
-    ap (λ b. b || loses (line_step s line).0 (one ++ other)) both.0 ∙ loses_both (line_step s line).0 one other both.1 f
-
-kept_both : (s : Script) (one other : List Line) → Kept s one → Kept (script_after s one) other → Kept s (one ++ other)
-kept_both s one other k l = record {
-  loses_none = loses_both s one other k.loses_none l.loses_none;
-  no_listen = All-append (λ line. line ≢ Some (codes "listen")) one other k.no_listen l.no_listen;
-}
-
-or_false : (b : Bool) → b ≡ false → (b || false) ≡ false
-or_false b e = ap (λ x. x || false) e
-
-kept_one : (s : Script) (line : Line) → is_lost (line_step s line).1 line ≡ false → line ≢ Some (codes "listen") → Kept s (line ∷ [])
-kept_one s line kept other = record {
-  loses_none = or_false (is_lost (line_step s line).1 line) kept;
-  no_listen = All-cons (λ l. l ≢ Some (codes "listen")) line [] other (All-nil (λ l. l ≢ Some (codes "listen")));
-}
-
-kept_none : (s : Script) → Kept s []
-kept_none s = record { loses_none = refl; no_listen = All-nil (λ l. l ≢ Some (codes "listen")) }
-
-not_lost : (reply : List ℕ) (line : Line) → leaves_nothing reply ≡ false → is_lost reply line ≡ false
-not_lost reply line e = ap (λ b. b && not (is_cut line)) e
-
--- The line `listen` says nothing that a script knows.
-listen_fails : line_meaning (Some (codes "listen")) ≡ fails BadLine
-listen_fails = at (is_utf8 (codes "listen"))
-  where
-    at : (b : Bool) → cond b (fails BadLine) (fails BadLine) ≡ fails BadLine
-    at true = refl
-    at false = refl
+use Rattle.journal_script.{specs.Cuts.{BeginsNext, IsMark, restore_mark, run_begins}, specs.Journals.{EndsWhole, IsSpoken, station_name}, specs.Restoring.{is_cut, is_lost, is_marked, leaves_nothing, loses, marked_by, run_line}, proofs.Cuts.{All-drop, Marks, front_of, one_line, open_part, marks as marks_are, whole_lines}, proofs.LastByte.{ends_so, keeps_last, last, last_behind}, proofs.LinesRead.both_whole, proofs.Notes.{comment_feedless, comment_says, note_after, note_whole}, proofs.Steps.{cut_entry, takes_line}, proofs.Whole.{lines_apart}}
+use Rattle.journal_laws.{specs.Restores.{CutJournalsRestore, HasRoom}, proofs.KeptLines.{Kept, kept_both, kept_none, kept_one, listen_fails, not_lost}, proofs.Accepted.{AreTakenBy, IsTakenBy, taken_by_world, taken_front}, proofs.LineLengths.short_line}
 
 -- ---- comments
 
@@ -151,7 +109,7 @@ part_of stations part (e ∷ log) all room next =
     let spoken = All-head (IsSpoken stations) e log all in
     let has = All-head HasRoom e log room in
     elim (cases_lt (length part) (length e.note)) [
-      | inl less ↦ in_note spoken.noted has.note less
+      | inl less ↦ in_note spoken.noted has less
       | inr past ↦
           let there = front_of e.note (line_text e.line) part next.0 next.1 past in
           let within : length there.0 ≤ length e.line = omega (arith, next.2, ap length there.2, length-append there.0 next.0, length-append e.line (10 ∷ [])) in
@@ -160,7 +118,7 @@ part_of stations part (e ∷ log) all room next =
             rest = there.0;
             noted = spoken.noted;
             feedless = open_part e.line there.0 next.0 spoken.speaks.feedless there.2 within;
-            short = let line = has.line in omega (arith, line, within);
+            short = let line = short_line (station_name stations e.station) e.line e.command spoken.speaks in omega (arith, line, within);
             is = there.1;
           }
     ]

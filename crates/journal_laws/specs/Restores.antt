@@ -5,7 +5,7 @@ use Rattle.ledger_model.specs.Laws.{AreAccepted}
 use Rattle.script_lines.{specs.Lines.lines_of, specs.Ranges.longest_line}
 use Rattle.script_ledgers.specs.Script.{start, script_after}
 use Rattle.site_desk.{specs.declared.plan.SitePlan.SitePlan, specs.declared.plan.StationPlan.StationPlan, specs.Cell.Cell}
-use Rattle.journal_script.{specs.Cuts.{IsMark, restore_mark, run_begins}, specs.Journals.{EndsWhole, HasOnce, IsSpoken, Shows, commands_of}, specs.Restoring.{HasNoListen, loses, marked_by}}
+use Rattle.journal_script.{specs.Cuts.{IsMark, restore_mark, run_begins}, specs.Head.IsHeadOf, specs.Journals.{EndsWhole, HasOnce, IsSpoken, Shows, commands_of}, specs.Restoring.{HasNoListen, loses, marked_by}}
 
 -- A script in whole lines loses none of them, and none is `listen`.
 pub record IsKept (read : List ℕ) : Type 0 where
@@ -13,15 +13,19 @@ pub record IsKept (read : List ℕ) : Type 0 where
   pub loses_none : loses start (lines_of longest_line read) ≡ false
   pub no_listen : HasNoListen longest_line read
 
+-- The head of a journal loses none of its lines.
+abbrev pub HeadsAreKept : Type 0
+HeadsAreKept = (sites : List SitePlan) (stations : List StationPlan) (head : List ℕ) → IsHeadOf sites stations head → IsKept head
+
 -- Each entry's command is accepted at the content to which its station's entries before it lead.
 pub record AreTaken (stations : List StationPlan) (firsts : List Cell) (log : List Entry) : Type 0 where
   pub count : length firsts ≡ length stations
   pub accepted : (k : ℕ) (s : StationPlan) (f : Cell) → slice_get stations k ≡ Some s → slice_get firsts k ≡ Some f → AreAccepted s.limits f.content (commands_of (of_station k log))
 
--- A mark behind an entry's line, or behind the comment in front of it, leaves it no longer than a line may be.
-pub record HasRoom (e : Entry) : Type 0 where
-  pub note : length e.note + length run_begins ≤ longest_line
-  pub line : length e.line + length run_begins ≤ longest_line
+-- A mark behind the comment in front of an entry's line leaves it no longer than a line may be. The line itself always
+-- leaves that room.
+abbrev pub HasRoom : Entry → Type 0
+HasRoom e = length e.note + length run_begins ≤ longest_line
 
 -- The law.
 abbrev pub CutJournalsRestore : Type 0
