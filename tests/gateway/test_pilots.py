@@ -14,6 +14,7 @@ from ocpp_board.ledger.mending import write_mends
 from ocpp_board.records import Message
 from ocpp_board.store.database import open_store
 from ocpp_board.store.plan import Author
+from tests.cluster import GatewayPart, find_port
 from tests.gateway.client import (
     BEGIN,
     ask,
@@ -23,7 +24,6 @@ from tests.gateway.client import (
     make_reply,
     wait_for_close,
 )
-from tests.gateway.cluster import GatewayPart, find_port
 
 Make = Callable[..., str]
 

@@ -1,6 +1,5 @@
 """The engine: what each text and each operator's line is answered, and what is stored then."""
 
-import multiprocessing
 import os
 import signal
 import sqlite3
@@ -323,20 +322,6 @@ def test_meter_values(store: Database) -> None:
     assert [(row.evse, row.at.minute, row.up_register) for row in rows] == wanted
     ask(store, read(6, 120), message("CS-01", '[2,"m","MeterValues",{"evseId":[]}]'))
     assert len(store.fetch("select * from meter_value")) == 4
-
-
-def test_pool(store: Database) -> None:
-    """Processes among which the work is parted give the same rows."""
-    plan(store)
-    lines = [one for number in range(40) for one in write_session("CS-01", f"T{number}", 4, number)]
-    settle(store, lines)
-    alone = read_all(store)
-    for table in ("line", "part", "finding", "session"):
-        store.execute(f"delete from {table}")
-    with multiprocessing.get_context("forkserver").Pool(2) as pool:
-        settle(store, lines, pool)
-    assert read_all(store) == alone
-    check(store)
 
 
 def test_settlers(store: Database, store_name: str) -> None:

@@ -12,7 +12,7 @@ from dataclasses import dataclass, field
 from datetime import datetime, timezone
 from functools import lru_cache, partial
 from operator import attrgetter
-from typing import Any, NamedTuple, Protocol
+from typing import Any, NamedTuple
 
 from ocpp_board.errors import InputError
 from ocpp_board.ledger.answers import Wish
@@ -69,20 +69,11 @@ PLACE = re.compile(r"(?!.*://).*:[0-9]+")
 ORDER = "order"
 # What became of texts that were refused and taken after all.
 TAKEN, MENDED = "taken", "mended"
-# Texts that a process of a pool is asked at once, and the size of the works that it gets at once.
-TEXTS_AT_ONCE, BYTES_AT_ONCE = 2_000, 1_048_576
 # Transactions that are computed again at once where rules change.
 SESSIONS_AT_ONCE = 2_000
 # Moments that have their nanoseconds kept, since many messages come at one.
 KEPT_MOMENTS = 1_024
 EPOCH = datetime(1970, 1, 1, tzinfo=timezone.utc)
-
-
-class Pool(Protocol):
-    """Processes that work at once."""
-
-    def imap(self, function: Any, pieces: Iterable[Any], /) -> Iterator[Any]:
-        """What the function makes of each piece, in their order."""
 
 
 class Decided(NamedTuple):
@@ -117,35 +108,27 @@ class Batch:
 Foreseen = dict[Key, tuple[Work, Done]]
 
 
-class Share(NamedTuple):
-    """The transactions that a process works on."""
-
-    keys: list[Key]
-    works: list[Work]
-
-
 def settle(
     store: Database,
     asked: Sequence[Asked],
-    pool: Pool | None = None,
     *,
     also: Callable[[Database], None] | None = None,
     warm: Warm | None = None,
     guard: AbstractContextManager[Any] | None = None,
 ) -> list[Answer]:
     """Answers what is asked, in its order, once all that it changes is committed. Raises StoreError and ProgramError,
-    and then nothing has changed. `pool`: processes among which texts and transactions are parted; `also`: is called
-    within the database transaction, right before its commit; `warm`: what this process stored last; `guard`: is held
-    together with a SQLite file, where several processes settle at once, and all that can be is computed before.
+    and then nothing has changed. `also`: is called within the database transaction, right before its commit; `warm`:
+    what this process stored last; `guard`: is held together with a SQLite file, where several processes settle at once,
+    and all that can be is computed before.
     """
-    put = mend_asked(store, asked)
-    batch = Batch(put.asked, ask_program(put.asked, pool))
+    put = mend_asked(store, asked, warm)
+    batch = Batch(put.asked, ask_program(put.asked))
     sort_asked(batch)
     find_strangers(store, batch)
     if batch.sessions or batch.refusals or batch.others or batch.mended or also:
         foreseen = foresee(store, batch) if guard and store.kind == "sqlite" else {}
         with guard or nullcontext(), store.transaction():
-            kept = write_batch(store, batch, pool, warm, foreseen)
+            kept = write_batch(store, batch, warm, foreseen)
             if also:
                 also(store)
         if warm is not None:
@@ -159,7 +142,7 @@ def settle(
 # What is asked -------------------------------------------------------------------------------------------------------
 
 
-def ask_program(asked: Sequence[Asked], pool: Pool | None) -> dict[int, Wish]:
+def ask_program(asked: Sequence[Asked]) -> dict[int, Wish]:
     """What each message asks for, by its place."""
     places = [place for place, one in enumerate(asked) if isinstance(one, Message)]
     texts, moments = list[str](), list[int | None]()
@@ -168,19 +151,7 @@ def ask_program(asked: Sequence[Asked], pool: Pool | None) -> dict[int, Wish]:
         assert isinstance(one, Message)
         texts.append(one.text)
         moments.append(to_nanoseconds(one.received))
-    if pool is None or len(texts) <= TEXTS_AT_ONCE:
-        return dict(zip(places, find_program().ask(texts, moments) if texts else ()))
-    pieces = [
-        (texts[at : at + TEXTS_AT_ONCE], moments[at : at + TEXTS_AT_ONCE])
-        for at in range(0, len(texts), TEXTS_AT_ONCE)
-    ]
-    wishes = (wish for some in pool.imap(ask_piece, pieces) for wish in some)
-    return dict(zip(places, wishes))
-
-
-def ask_piece(piece: tuple[list[str], list[int | None]]) -> list[Wish]:
-    """What texts ask for, in a process of a pool."""
-    return find_program().ask(*piece)
+    return dict(zip(places, find_program().ask(texts, moments) if texts else ()))
 
 
 @lru_cache(KEPT_MOMENTS)
@@ -262,7 +233,7 @@ def find_strangers(store: Database, batch: Batch) -> None:
 
 
 def write_batch(
-    store: Database, batch: Batch, pool: Pool | None, warm: Warm | None, foreseen: Foreseen
+    store: Database, batch: Batch, warm: Warm | None, foreseen: Foreseen
 ) -> dict[Key, Kept]:
     """Writes what a batch changes, within a database transaction, and answers the rest of it."""
     planned = hold_sites(store, batch, warm)
@@ -277,7 +248,7 @@ def write_batch(
     batch.answers |= deeds
     works = make_works(store, batch, held, deeds, planned)
     writer, kept, unmeasured = Writer(store), dict[Key, Kept](), set[Key]()
-    for key, work, done in work_on(works, pool, foreseen):
+    for key, work, done in work_on(works, foreseen):
         take_answers(store, batch, work, done, held[key], deeds)
         if now := write_rows(writer, work, held[key], done):
             kept[key] = now
@@ -336,7 +307,7 @@ def foresee(store: Database, batch: Batch) -> Foreseen:
         known = {key: sites[key[0]] for key in batch.sessions if key[0] in sites}
         held = store_lines.hold_sessions(store, known)
         works = make_works(store, batch, held, find_done(store, batch), planned)
-    return {key: (work, done) for key, work, done in work_on(works, None)}
+    return {key: (work, done) for key, work, done in work_on(works)}
 
 
 def hold_sites(store: Database, batch: Batch, warm: Warm | None) -> Planned:
@@ -485,39 +456,15 @@ def make_line(one: Asked) -> Line:
 
 
 def work_on(
-    works: dict[Key, Work], pool: Pool | None, foreseen: Foreseen | None = None
+    works: dict[Key, Work], foreseen: Foreseen | None = None
 ) -> Iterator[tuple[Key, Work, Done]]:
     """What became of each transaction's new lines, and its rows."""
     some = {key: work for key, work in works.items() if work.new or work.has_rows}
     for key, (work, done) in (foreseen or {}).items():
         if some.get(key) == work:
             yield key, some.pop(key), done
-    if pool is None:
-        for (key, work), done in zip(some.items(), work_out(find_program(), some.values())):
-            yield key, work, done
-        return
-    pieces = list(part_works(some))
-    for piece, found in zip(pieces, pool.imap(work_piece, (piece.works for piece in pieces))):
-        yield from zip(piece.keys, piece.works, found)
-
-
-def part_works(works: dict[Key, Work]) -> Iterator[Share]:
-    """Works in pieces for the processes of a pool."""
-    piece, size = Share([], []), 0
-    for key, work in works.items():
-        piece.keys.append(key)
-        piece.works.append(work)
-        size += sum(len(line.text) for line in (*work.stored, *work.new))
-        if size > BYTES_AT_ONCE:
-            yield piece
-            piece, size = Share([], []), 0
-    if piece.keys:
-        yield piece
-
-
-def work_piece(works: list[Work]) -> list[Done]:
-    """What became of transactions, in a process of a pool."""
-    return list(work_out(find_program(), works))
+    for (key, work), done in zip(some.items(), work_out(find_program(), some.values())):
+        yield key, work, done
 
 
 def take_answers(
@@ -768,7 +715,7 @@ def renew_sessions(
         own = own_rules(rules[one.site], one.own_order, powers.get(key[0]))
         works[key] = Work(*key, one.site, own, one.lines, [], list_conflicts(key, one), True)
     writer, unmeasured = Writer(store), set[Key]()
-    for key, work, done in work_on(works, None):
+    for key, work, done in work_on(works):
         write_rows(writer, work, held[key], done)
         if is_unmeasured(done):
             unmeasured.add(key)
@@ -803,9 +750,7 @@ def order_session(
         write_deed(store, deed, Answer(f"by {order}", "", None, key[1]))
 
 
-def take_strays(
-    store: Database, stations: Iterable[str] | None = None, pool: Pool | None = None
-) -> list[Answer]:
+def take_strays(store: Database, stations: Iterable[str] | None = None) -> list[Answer]:
     """Settles what came of stations before the plan had them, in the order of receipt. `stations`: None for all that
     the plan has by now."""
     asked = """select station, digest, site, text, received, origin from stray where station = :station
@@ -819,7 +764,7 @@ def take_strays(
         texts = [
             Message(station, row.text, row.received, row.origin, row.site or None) for row in rows
         ]
-        answers += settle(store, texts, pool, also=partial(forget_strays, rows))
+        answers += settle(store, texts, also=partial(forget_strays, rows))
     return answers
 
 

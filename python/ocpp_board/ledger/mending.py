@@ -1,6 +1,7 @@
 """Mends what stations send as the plan of their sites declares, before it is settled, whatever it came by."""
 
 import argparse
+import time
 from collections import Counter
 from collections.abc import Iterable, Sequence
 from typing import NamedTuple
@@ -10,15 +11,20 @@ from ocpp_board.limits import MOMENT
 from ocpp_board.records import Answer, Asked, Message
 from ocpp_board.sources.mend import Fault, Mender, read_fault
 from ocpp_board.store.database import Database
-from ocpp_board.store.lines import find_sites
+from ocpp_board.store.lines import Warm, find_sites
 from ocpp_board.store.plan import Author, note_change
 
 MENDS = "select site, mends from site where mends <> ''"
 BEGAN = """
 select began from session where station = :station and transaction_id = :transaction_id
 """
+# Seconds for which a process that settles again and again keeps what is mended.
+SECONDS_KEPT = 1.0
 # What an answer to a mended message counts as, beside its outcome.
 MENDED = "mended "
+
+
+Mends = dict[str, dict[str, Fault]]  # By site and name of a fault.
 
 
 class Put(NamedTuple):
@@ -41,7 +47,7 @@ class Put(NamedTuple):
         return found
 
 
-def make_mender(store: Database, mends: dict[str, dict[str, Fault]]) -> Mender:
+def make_mender(store: Database, mends: Mends) -> Mender:
     """What mends messages of these sites. When a session began, the store says where no message of it is known."""
 
     def find_begin(station: str, transaction: str) -> str | None:
@@ -51,9 +57,22 @@ def make_mender(store: Database, mends: dict[str, dict[str, Fault]]) -> Mender:
     return Mender(mends, find_begin)
 
 
-def mend_asked(store: Database, asked: Sequence[Asked]) -> Put:
-    """What is settled in place of what is asked: messages of sites that declare mends are mended. Raises StoreError."""
+def find_mends(store: Database, warm: Warm | None) -> Mends:
+    """What is mended in messages, by site. `warm`: has them for a while, since each statement costs as much as a
+    message's own rows. Raises StoreError."""
+    now = time.monotonic()
+    if warm is not None and now < warm.mends_until:
+        return warm.mends
     mends = {row.site: dict(map(read_fault, row.mends.split())) for row in store.fetch(MENDS)}
+    if warm is not None:
+        warm.mends, warm.mends_until = mends, now + SECONDS_KEPT
+    return mends
+
+
+def mend_asked(store: Database, asked: Sequence[Asked], warm: Warm | None = None) -> Put:
+    """What is settled in place of what is asked: messages of sites that declare mends are mended. `warm`: what this
+    process keeps of the store. Raises StoreError."""
+    mends = find_mends(store, warm)
     if not mends:
         return Put(asked)
     stations = sorted({one.station for one in asked if isinstance(one, Message)})

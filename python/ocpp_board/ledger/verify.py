@@ -6,12 +6,11 @@ A site's lines are replayed in scripts of up to 64 stations; boards of scripts t
 from collections.abc import Iterable, Iterator, Sequence
 from datetime import datetime, timezone
 from itertools import repeat
-from typing import Any, NamedTuple, TypeVar
+from typing import Any, NamedTuple, Protocol, TypeVar
 
 from ocpp_board.energies import Flow
 from ocpp_board.errors import OcppBoardError
 from ocpp_board.ledger.answers import AnswerReader, Board, BoardPart, Figures, Total
-from ocpp_board.ledger.engine import Pool
 from ocpp_board.ledger.program import find_program
 from ocpp_board.ledger.scripts import OWN_ORDERS, join_scripts
 from ocpp_board.limits import FIRST_MOMENT
@@ -34,6 +33,13 @@ select s.station, (
 """
 COUNTS = ("events", "voided", "transactions", "complete_transactions", "missing")
 FLOW = Flow._fields
+
+
+class Pool(Protocol):
+    """Processes that work at once."""
+
+    def imap(self, function: Any, pieces: Iterable[Any], /) -> Iterator[Any]:
+        """What the function makes of each piece, in their order."""
 
 
 class Difference(OcppBoardError):

@@ -293,6 +293,9 @@ class Warm:
         """`most`: about how many bytes are kept."""
         self.most, self.size = most, 0
         self.kept = OrderedDict[Key, Kept]()
+        # What is mended in messages, by site, and until when that is kept.
+        self.mends: dict[str, Any] = {}
+        self.mends_until = 0.0
 
     def take(self, key: Key, lines: int, changed: int | str | None) -> Kept | None:
         """Takes out what is kept of a transaction; none where something else is stored."""
