@@ -6,6 +6,7 @@ import io
 import json
 from datetime import datetime, timezone
 from pathlib import Path
+from typing import Any
 from zoneinfo import ZoneInfo
 
 import pytest
@@ -218,7 +219,7 @@ def test_an_event_that_is_no_end_is_not_parted() -> None:
         ("Ended", "--mend parted"),
         ("Updated", "counts a transaction's events by 1"),
     ):
-        payload = {
+        payload: dict[str, Any] = {
             "eventType": kind,
             "timestamp": "2026-03-01T10:00:00Z",
             "triggerReason": "EVDeparted",

@@ -598,6 +598,33 @@ CASES = [
         ),
     ),
     Case(
+        "MeterValues around a session's own readings",
+        4,
+        "1, 3, 4 and 4 kWh, of which its readings say the second",
+        "M 10:00 1000\nS T1 0 10:00\nU T1 1 10:15 2000\nU T1 2 10:30 5000\nE T1 3 11:00\nM 11:00 13000",
+        {"A/T1": 12_000},
+        periods={"10:00": 1000, "10:15": 3000, "10:30": 4000, "10:45": 4000},
+        found={"A/T1": {"no reading at the start": "15 min", "no reading at the end": "30 min"}},
+        remedy=("adjust estimate A T1 --register meter-values --why 'by MeterValues'",),
+        shows=(
+            ("estimates --site north", "10:00:00Z,1.000000,.*\n(?!.*10:15).*10:30:00Z,4.000000,"),
+        ),
+    ),
+    Case(
+        "a session's own readings are no MeterValues",
+        4,
+        "its start and its end have none, and there is nothing else",
+        "S T1 0 10:00\nU T1 1 10:15 2000\nU T1 2 10:30 5000\nE T1 3 11:00",
+        {"A/T1": 3_000},
+        found={"A/T1": {"no reading at the start": "15 min", "no reading at the end": "30 min"}},
+        shows=(
+            (
+                "estimates --site north",
+                r"\Astation,session_id,period_start,imported_kwh,figure\n\Z",
+            ),
+        ),
+    ),
+    Case(
         "MeterValues that come after the session",
         4,
         "the station sends them an hour later",

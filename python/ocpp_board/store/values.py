@@ -28,7 +28,7 @@ where s.station = :station and s.transaction_id = :transaction_id and s.evse <> 
     and s.energy_measured <> 'yes'
 """
 OPEN_PARTS = """
-select starts, by_values from part
+select starts, shared, by_values from part
 where station = :station and transaction_id = :transaction_id and not measured order by starts
 """
 WRITE_PART = """
@@ -142,12 +142,29 @@ def estimate_parts(store: Database, keys: Iterable[tuple[str, str]]) -> None:
         register, (begin, end) = read_register(store, session), find_span(session)
         period, changed = timedelta(seconds=session.period), list[dict[str, object]]()
         for part in parts:
-            mwh = register.find_rise(max(part.starts, begin), min(part.starts + period, end))
+            span = max(part.starts, begin), min(part.starts + period, end)
+            mwh = estimate_part(session, register, part, *span)
             if mwh is not None and mwh != part.by_values:
                 changed.append(key | {"starts": part.starts, "mwh": mwh})
         if changed:
             store.execute_each(WRITE_PART, changed)
             store.execute(CHANGED, now=now, hour=count_hours(now), **key)
+
+
+def estimate_part(
+    session: Row, register: Register, part: Row, begin: datetime, end: datetime
+) -> int | None:
+    """What a session took in a part of its time: by its register before its first reading and behind its last one, and
+    between them as its readings say. None where the register does not say it, or is not asked."""
+    first, last = session.first_reading_at, session.last_reading_at
+    spans = [(begin, end)] if first is None else []
+    if first is not None and begin < first:
+        spans.append((begin, min(end, first)))
+    if last is not None and end > last:
+        spans.append((max(begin, last), end))
+    rises = [register.find_rise(*span) for span in spans]
+    known = [rise for rise in rises if rise is not None]
+    return sum(known) + (part.shared or 0) if rises and len(known) == len(rises) else None
 
 
 def find_near(

@@ -502,9 +502,11 @@ class Reader:
     def corrections(self, site: str, number: int, count: int) -> list[Correction]:
         """What a closing changed of what one before had settled."""
         sql = (
-            "select station, transaction_id, starts, net, first_line, last_line, estimated, findings, holds "
-            "from correction where site = :site and closing = :number "
-            "order by station, transaction_id, starts limit :count"
+            "select c.*, d.findings, d.holds from ("
+            "select station, transaction_id, starts, net, first_line, last_line, estimated from correction "
+            "where site = :site and closing = :number order by station, transaction_id, starts limit :count) c "
+            "join session_doubt d on d.station = c.station and d.transaction_id = c.transaction_id "
+            "order by c.station, c.transaction_id, c.starts"
         )
         rows = self.store.fetch(sql, site=site, number=number, count=count)
         return [Correction(*row) for row in rows]
@@ -514,12 +516,13 @@ class Reader:
         sql = (
             "select c.station, c.transaction_id, c.settled, c.lines, s.energy_measured, s.first_reading_at, "
             "s.last_reading_at, d.findings, d.holds, a.adjusted_import - a.adjusted_export as adjusted, c.up, c.down, "
-            "c.export_up, c.export_down from closed_session c "
+            "c.export_up, c.export_down from ("
+            "select * from closed_session where site = :site and closing = :number and settled is not null "
+            "order by station, transaction_id limit :count) c "
             "join session s on s.station = c.station and s.transaction_id = c.transaction_id "
             "join session_doubt d on d.station = c.station and d.transaction_id = c.transaction_id "
             "join adjusted_session a on a.station = c.station and a.transaction_id = c.transaction_id "
-            "where c.site = :site and c.closing = :number and c.settled is not null "
-            "order by c.station, c.transaction_id limit :count"
+            "order by c.station, c.transaction_id"
         )
         rows = self.store.fetch(sql, site=site, number=number, count=count)
         return [Settled._make([*row[:10], make_flow(row, 10)]) for row in rows]
