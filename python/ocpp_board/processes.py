@@ -1,6 +1,7 @@
 """Where this package is, what processes that it starts find, and who reads what a process writes."""
 
 import gc
+import multiprocessing
 import os
 import select
 import signal
@@ -9,6 +10,8 @@ import sys
 import threading
 from collections.abc import Iterator
 from contextlib import contextmanager
+from multiprocessing.connection import wait
+from multiprocessing.process import BaseProcess
 from pathlib import Path
 
 from ocpp_board.statuses import Status
@@ -43,6 +46,17 @@ def pause_collector() -> Iterator[None]:
 def leave_interrupts() -> None:
     """Has a process of a pool leave an interrupt, which a terminal sends to all, to the process that has the pool."""
     signal.signal(signal.SIGINT, signal.SIG_IGN)
+
+
+def end_with_parent() -> None:
+    """Ends this process once the one that began it is gone, as nothing else does where that one is killed."""
+
+    def watch(parent: BaseProcess) -> None:
+        wait([parent.sentinel])
+        os._exit(Status.MISTAKEN)
+
+    parent = multiprocessing.parent_process()
+    threading.Thread(target=watch, args=(parent,), daemon=True).start()
 
 
 def replay_environment() -> dict[str, str]:

@@ -17,6 +17,7 @@ from typing import Any
 import pytest
 
 from ocpp_board import cli
+from ocpp_board.commands import follow
 from ocpp_board.store.database import SqliteDatabase, open_store
 from tests.store.beside import HEARTBEAT, LONGEST_WAIT, TOOL, follow_beside, message, row
 
@@ -284,6 +285,48 @@ def test_a_kill_at_each_of_100_statements_takes_no_line_twice(tmp_path: Path) ->
         run.run_once()
         assert sum(run.events().values()) == 201
         assert len(run.table("transactions")) == len(run.events()) == 9
+
+
+def end_before_place(words: Sequence[str]) -> None:
+    """Runs `follow` with processes that settle, and kills this one where it would note how far a log was read."""
+    os.setsid()
+    follow.MANY = 10
+    follow.write_place = lambda *_words: os.kill(os.getpid(), signal.SIGKILL)
+    os.sched_getaffinity = lambda _pid: {0, 1}
+    os._exit(cli.main(words))
+
+
+def list_sessions() -> set[int]:
+    """The sessions that processes of this machine are in."""
+    found = set[int]()
+    for path in Path("/proc").glob("[0-9]*/stat"):
+        with contextlib.suppress(OSError):
+            found.add(int(path.read_text().rpartition(")")[2].split()[3]))
+    return found
+
+
+def test_lines_that_are_read_again_change_nothing(tmp_path: Path) -> None:
+    """Where there is much, processes settle it, and how far the log was read is noted behind it: killed between, the
+    follower reads the lines again. Its processes end with it."""
+    with follow_beside(tmp_path) as run:
+        for tx in range(20):
+            kinds = ["Started", *["Updated"] * 4]
+            run.write(*(row(message(n, kind, tx=f"T{tx}")) for n, kind in enumerate(kinds)))
+        run.write(row(message(0, "Started", tx="bad").replace('"seqNo":0', '"seqNo":-1')))
+        words = run.words("--once")[len(TOOL) :]
+        process = multiprocessing.get_context("fork").Process(
+            target=end_before_place, args=(words,)
+        )
+        process.start()
+        process.join(LONGEST_WAIT)
+        assert process.exitcode == -signal.SIGKILL and process.pid
+        run.wait("the end of its processes", lambda: process.pid not in list_sessions())
+        asked = "select (select count(*) from line), (select sum(times) from refusal)"
+        for count in (0, 1):
+            with open_store(run.store) as store:
+                assert len(store.fetch("select origin from source")) == count
+                assert [tuple(row) for row in store.fetch(asked)] == [(100, count or None)]
+            run.run_once()
 
 
 @pytest.mark.skipif(os.getuid() != 0, reason="only root mounts a file system")

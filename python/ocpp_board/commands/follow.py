@@ -4,7 +4,8 @@
 
 reads each log from where it was read before, over rotations by rename or copy, dated and compressed files and cuts; at
 a first start the rotated files come first, the oldest before the others. How far a log was read is committed with the
-lines, so nothing is taken twice and nothing is lost when the process is killed. Several followers may share a store.
+lines, or behind them where they are many. So nothing is lost when the process is killed, and a line that is read again
+changes nothing. Several followers may share a store.
 
 The stations are those of the store's plan, of --stations (a site and a station a line; the file is read again when it
 changes), and with --site all that come. Messages of other stations wait in the store until the plan has the station.
@@ -384,9 +385,7 @@ class Follow:
         def settle_once() -> None:
             self.loader.plan(self.find_new(records))
             if len(records) > MANY and self.options.processes > 1:
-                self.settle_many(records)
-                with self.store.transaction():
-                    note(self.store)
+                self.settle_many(records, note)
                 return
             answers = settle(self.store, records, also=note)
             for record, answer in zip(records, answers):
@@ -401,16 +400,21 @@ class Follow:
         self.until = max([*moments, *filter(None, [self.until])], default=None)
         self.meter.show(f"{one.path}: {one.reader.counts['lines']:,} lines")
 
-    def settle_many(self, records: Sequence[Asked]) -> None:
-        """Has processes settle records, each those of its stations. Where something fails before it is noted how far
-        the log was read, they are settled again, which changes nothing. Raises StoreError."""
+    def settle_many(self, records: Sequence[Asked], note: Callable[[Database], None]) -> None:
+        """Has processes settle records, each those of its stations, and notes then how far the log was read, with what
+        is counted. Before that, lines that are read again are repeats. Raises StoreError."""
         if self.settlers is None:
             self.settlers = Settlers(self.options.store, self.options.processes)
         try:
-            self.loader.counts += self.settlers.submit(records).get()
+            pending = self.settlers.submit(records, is_apart=True)
+            counts = pending.get()
         except StoreError:
             self.drop_settlers()
             raise
+        with self.store.transaction():
+            pending.counted.write(self.store)
+            note(self.store)
+        self.loader.counts += counts
         self.loader.changed |= {(record.station, None) for record in records}
 
     def drop_settlers(self) -> None:

@@ -48,8 +48,8 @@ from ocpp_board.messages.texts import is_unanswered, one_line
 from ocpp_board.messages.times import SECOND
 from ocpp_board.records import DELIVER, Answer, Asked, Deed, Line, Message, Rules, Untaken
 from ocpp_board.store import lines as store_lines
-from ocpp_board.store.database import Database, Row, choose
-from ocpp_board.store.lines import Held, Kept, Key, Warm, Writer, Written
+from ocpp_board.store.database import Database, Row
+from ocpp_board.store.lines import Counted, Held, Kept, Key, Warm, Writer, Written
 from ocpp_board.store.plan import (
     RULES_COLUMNS,
     Author,
@@ -115,11 +115,12 @@ def settle(
     also: Callable[[Database], None] | None = None,
     warm: Warm | None = None,
     guard: AbstractContextManager[Any] | None = None,
+    apart: Counted | None = None,
 ) -> list[Answer]:
     """Answers what is asked, in its order, once all that it changes is committed. Raises StoreError and ProgramError,
     and then nothing has changed. `also`: is called within the database transaction, right before its commit; `warm`:
     what this process stored last; `guard`: is held together with a SQLite file, where several processes settle at once,
-    and all that can be is computed before.
+    and all that can be is computed before; `apart`: gets what is counted, which the caller writes.
     """
     put = mend_asked(store, asked, warm)
     batch = Batch(put.asked, ask_program(put.asked))
@@ -128,7 +129,7 @@ def settle(
     if batch.sessions or batch.refusals or batch.others or batch.mended or also:
         foreseen = foresee(store, batch) if guard and store.kind == "sqlite" else {}
         with guard or nullcontext(), store.transaction():
-            kept = write_batch(store, batch, warm, foreseen)
+            kept = write_batch(store, batch, warm, foreseen, apart)
             if also:
                 also(store)
         if warm is not None:
@@ -233,7 +234,11 @@ def find_strangers(store: Database, batch: Batch) -> None:
 
 
 def write_batch(
-    store: Database, batch: Batch, warm: Warm | None, foreseen: Foreseen
+    store: Database,
+    batch: Batch,
+    warm: Warm | None,
+    foreseen: Foreseen,
+    apart: Counted | None,
 ) -> dict[Key, Kept]:
     """Writes what a batch changes, within a database transaction, and answers the rest of it."""
     planned = hold_sites(store, batch, warm)
@@ -255,9 +260,11 @@ def write_batch(
         if is_unmeasured(done):
             unmeasured.add(key)
     writer.write()
-    write_refusals(store, batch)
-    write_decided(store, batch)
-    write_strays(store, batch)
+    counted = Counted(list_refusals(store, batch), list_decided(batch), list_strays(batch))
+    if apart is None:
+        counted.write(store)
+    else:
+        apart.add(counted)
     write_mended(store, batch)
     estimate_parts(store, unmeasured | write_levels(store, batch, sites))
     return kept
@@ -553,8 +560,8 @@ def name_place(origin: str) -> str:
     return f"\n{origin}\n" if PLACE.fullmatch(origin) else ""
 
 
-def write_refusals(store: Database, batch: Batch) -> None:
-    """Adds what was refused, or counts it where it came before."""
+def list_refusals(store: Database, batch: Batch) -> list[dict[str, Any]]:
+    """What was refused, as rows."""
     kept, rows = dict[tuple[str, str], set[str]](), list[dict[str, Any]]()
     for one, refusal, transaction in batch.refusals:
         kind = one.station, refusal.cause
@@ -581,18 +588,13 @@ def write_refusals(store: Database, batch: Batch) -> None:
             row |= {"sent_number": "", "what": store_lines.ONE_OF_MANY}
         own.add(str(row["digest"]))
         rows.append(row)
-    if rows:
-        store.execute_each(choose(store_lines.ADD_REFUSAL, store.kind), rows)
+    return rows
 
 
-def write_decided(store: Database, batch: Batch) -> None:
-    """Notes that texts which waited for a decision were taken."""
+def list_decided(batch: Batch) -> list[dict[str, Any]]:
+    """Which texts that waited for a decision were taken."""
     now = datetime.now(timezone.utc)
-    if batch.decided:
-        store.execute_each(
-            store_lines.DECIDE,
-            [one._asdict() | {"at": now, "who": "", "why": ""} for one in batch.decided],
-        )
+    return [one._asdict() | {"at": now, "who": "", "why": ""} for one in batch.decided]
 
 
 def digest_stray(text: str) -> str:
@@ -600,8 +602,8 @@ def digest_stray(text: str) -> str:
     return Refusal(UNKNOWN_STATION, "", "", "", "", text, None).digest
 
 
-def write_strays(store: Database, batch: Batch) -> None:
-    """Adds messages of stations that no site has, or counts them where they came before."""
+def list_strays(batch: Batch) -> list[dict[str, Any]]:
+    """Messages of stations that no site has, as rows."""
     rows = list[dict[str, Any]]()
     for one, wish in batch.strays:
         named = find_names(one.text)
@@ -619,8 +621,7 @@ def write_strays(store: Database, batch: Batch) -> None:
                 "at": one.received or named.at,
             }
         )
-    if rows:
-        store.execute_each(choose(store_lines.ADD_STRAY, store.kind), rows)
+    return rows
 
 
 def write_mended(store: Database, batch: Batch) -> None:

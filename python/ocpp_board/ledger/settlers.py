@@ -13,9 +13,10 @@ from zlib import crc32
 from ocpp_board.errors import StoreAway
 from ocpp_board.ledger.engine import settle
 from ocpp_board.ledger.mending import count_mended
-from ocpp_board.processes import leave_interrupts, pause_collector
+from ocpp_board.processes import end_with_parent, leave_interrupts, pause_collector
 from ocpp_board.records import Asked, Deed, Message, Untaken
 from ocpp_board.store.database import Database, open_store
+from ocpp_board.store.lines import Counted
 
 # What is asked goes from process to process as plain tuples, each with the place of its kind.
 KINDS: tuple[Any, ...] = (Message, Deed, Untaken)
@@ -23,6 +24,7 @@ PLACES = {kind: place for place, kind in enumerate(KINDS)}
 # How processes are started.
 START = "forkserver"
 Packed = list[tuple[int, tuple[Any, ...]]]
+Part = tuple[Counter[str], Counted | None]
 
 
 class Settler:
@@ -35,22 +37,25 @@ class Settler:
 def open_settler(name: str, is_durable: bool, guard: Lock) -> None:
     """Opens the store in a process that settles."""
     leave_interrupts()
+    end_with_parent()
     Settler.store, Settler.guard = open_store(name, is_durable), guard
 
 
-def settle_own(packed: Packed) -> Counter[str]:
-    """Settles what is of the stations of this process, and counts the outcomes."""
+def settle_own(packed: Packed, apart: Counted | None) -> Part:
+    """Settles what is of the stations of this process, and counts the outcomes. `apart`: gets what else is counted."""
     with pause_collector():
         asked = [KINDS[place]._make(values) for place, values in packed]
-        answers = settle(Settler.store, asked, guard=Settler.guard)
-        return Counter(one.outcome for one in answers) + count_mended(answers)
+        answers = settle(Settler.store, asked, guard=Settler.guard, apart=apart)
+        return Counter(one.outcome for one in answers) + count_mended(answers), apart
 
 
 class Pending:
     """What was asked and is being settled, a part by each process."""
 
-    def __init__(self, parts: "list[Future[Counter[str]]]") -> None:
+    def __init__(self, parts: "list[Future[Part]]") -> None:
         self.parts = parts
+        # What the caller has to write.
+        self.counted = Counted()
 
     def get(self) -> Counter[str]:
         """How many there are of each outcome, once all of it is committed. Raises StoreError and ProgramError; what is
@@ -58,7 +63,9 @@ class Pending:
         found = Counter[str]()
         try:
             for part in self.parts:
-                found += part.result()
+                counts, apart = part.result()
+                found += counts
+                self.counted.add(apart or Counted())
         except BrokenProcessPool:
             raise StoreAway("a process that settles was ended") from None
         return found
@@ -83,15 +90,16 @@ class Settlers:
             self.place_of[station] = place
         return place
 
-    def submit(self, asked: Sequence[Asked]) -> Pending:
-        """Has some of what is asked settled; the next may be submitted before this is. Raises StoreError."""
+    def submit(self, asked: Sequence[Asked], is_apart: bool = False) -> Pending:
+        """Has some of what is asked settled; the next may be submitted before this is. `is_apart`: what is counted is
+        for the caller to write. Raises StoreError."""
         parts: list[Packed] = [[] for _ in self.pools]
         for one in asked:
             parts[self.find_place(one.station)].append((PLACES[type(one)], tuple(one)))
         try:
-            return Pending(
-                [pool.submit(settle_own, part) for pool, part in zip(self.pools, parts) if part]
-            )
+            apart = Counted() if is_apart else None
+            some = [(pool, part) for pool, part in zip(self.pools, parts) if part]
+            return Pending([pool.submit(settle_own, part, apart) for pool, part in some])
         except BrokenProcessPool:
             raise StoreAway("a process that settles was ended") from None
 

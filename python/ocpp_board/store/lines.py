@@ -520,6 +520,31 @@ def delete_each(store: Database, table: str, keys: Sequence[Key]) -> None:
     )
 
 
+@dataclass
+class Counted:
+    """Texts that changed nothing, as rows: each is added, or counted where it came before. `decided`: those that waited
+    and were taken."""
+
+    refusals: list[dict[str, Any]] = field(default_factory=list)
+    decided: list[dict[str, Any]] = field(default_factory=list)
+    strays: list[dict[str, Any]] = field(default_factory=list)
+
+    def add(self, other: "Counted") -> None:
+        """Adds others behind these."""
+        self.refusals += other.refusals
+        self.decided += other.decided
+        self.strays += other.strays
+
+    def write(self, store: Database) -> None:
+        """Writes all, within a database transaction."""
+        if self.refusals:
+            store.execute_each(choose(ADD_REFUSAL, store.kind), self.refusals)
+        if self.decided:
+            store.execute_each(DECIDE, self.decided)
+        if self.strays:
+            store.execute_each(choose(ADD_STRAY, store.kind), self.strays)
+
+
 def find_digests(store: Database, station: str, cause: str) -> set[str]:
     """The digests of the texts of a station and a cause that are kept."""
     asked = "select digest from refusal where station = :station and cause = :cause"
