@@ -6,7 +6,7 @@ use Rattle.ledger_model.{specs.Key.KeyName, specs.Event.{EventContent, MeterRead
 use Rattle.ocppj_frame.{specs.declared.action.Action.TheVariants.{BootNotification, Heartbeat, StatusNotification, MeterValues, TransactionEvent}, specs.Frame.{Frame, Called, Silence, Ready, frame}, proofs.Messages.frame-Called}
 use Rattle.transaction_event.{specs.declared.fault.PayloadFault.TheVariants.{Format, Range}, specs.Integer.required_integer, specs.Member.{object_of, optional, required}, specs.MeterValues.{meter_value, meter_values}, specs.Request.{Request, event_reading, evse_number, evse_of, has_token, key_of, kind_named, kind_of, request_of, tx_named}, specs.Steps.{Checked, checked_map, for_each}, specs.Timestamp.timestamp}
 use Rattle.transaction_event.specs.Message as meaning
-use Rattle.event_laws.{specs.EventRequest.{HasNumber, HasReadings, HasToken, HasTransaction, IsEventCall, IsEventRequest, IsTransactionId, MayNameEvse, type_name}, specs.Members.{Has, MayHave}, specs.Samples.{AreMeterValues}, proofs.MemberLemmas.{binds, bound, checked_object, has_natural, has_optional, has_required, natural_has, object_checked, object_there, optional_has, passed, required_has, same_ok, there_object}, proofs.SampleLemmas.{are_meter_values, has_time, meter_values_are, named_is, time_has}}
+use Rattle.event_laws.{specs.EventRequest.{HasNumber, HasReadings, HasToken, HasTransaction, IsEventCall, IsEventRequest, IsTransactionId, MayNameEvse, type_name}, specs.Members.{Has, MayHave}, specs.Samples.AreMeterValues, proofs.MemberLemmas.{binds, bound, checked_object, has_natural, has_optional, has_required, natural_has, object_checked, object_there, optional_has, passed, required_has, same_ok, there_object}, proofs.SampleLemmas.{are_meter_values, has_time, meter_values_are, named_is, time_has}}
 
 -- ---- the kind of an event
 

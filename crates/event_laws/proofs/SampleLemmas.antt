@@ -4,7 +4,7 @@ use Rattle.serde_json.specs.Data.{Data}
 use Rattle.marked_json.specs.Reading.{is_object, items_of, number_of, text_of}
 use Rattle.ledger_model.{specs.Event.MeterReading, specs.Ranges.most_event_readings, specs.declared.reading.Direction.Direction, specs.declared.reading.Direction.TheVariants.{Import, Export}}
 use Rattle.reading_decimal.{specs.Decimal.mwh_reading, specs.Moment.moment_reading, specs.declared.decimal.DecimalFault.DecimalFault, specs.declared.decimal.Unit.Unit as EnergyUnit, specs.declared.decimal.Unit.TheVariants.{Wh, KWh}, specs.declared.moment.MomentFault.MomentFault}
-use Rattle.transaction_event.{specs.declared.fault.PayloadFault.TheVariants.{Range, TooManyReadings, WrongType}, specs.Integer.{if_within, integer_of, optional_integer, within}, specs.Member.{object_of, optional, required}, specs.MeterValues.{meter_value}, specs.Readings.one_more, specs.Sampled.{absent_or, counted_toward, counts, decimal, direction_of, if_counted, sample, sampled_mwh}, specs.Scale.{Scaling, named_scale, scale_of, unit_named}, specs.Steps.{Checked, checked_map, for_each}, specs.Timestamp.{moment, moment_named, timestamp}}
+use Rattle.transaction_event.{specs.declared.fault.PayloadFault.TheVariants.{Range, TooManyReadings, WrongType}, specs.Integer.{if_within, integer_of, optional_integer, within}, specs.Member.{object_of, optional, required}, specs.MeterValues.meter_value, specs.Readings.one_more, specs.Sampled.{absent_or, counted_toward, counts, decimal, direction_of, if_counted, sample, sampled_mwh}, specs.Scale.{Scaling, named_scale, scale_of, unit_named}, specs.Steps.{Checked, checked_map, for_each}, specs.Timestamp.{moment, moment_named, timestamp}}
 use Rattle.event_laws.{specs.Members.{Has, HasInteger, MayHave}, specs.Samples.{AreMeterValues, AreSamples, HasMultiplier, HasScale, HasTime, HasUnit, HasValue, IsCounted, IsMeterValue, IsOfRegister, IsSample, IsUncounted, register_name, unit_name}, proofs.MemberLemmas.{binds, bound, checked_object, has_integer, has_optional, has_required, integer_has, object_checked, object_there, optional_has, passed, required_has, same_ok, there_object}}
 
 -- ---- texts

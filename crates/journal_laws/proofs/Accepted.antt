@@ -1,10 +1,10 @@
 -- Entries whose commands are accepted, station by station, are accepted one after the other.
 use Rattle.std.{proofs.Common.{◌≡◌, ◌≢◌, ℕ, zero, suc, ◌<◌, Bool, true, false, cond, List, [], ◌∷◌, Some, All, map, bytes_eq, length, get_or, ◌⊎◌, inl, inr, take, option_map, refl, sym, ap, subst, ◌∙◌, arith}, specs.Prelude.{⊤, slice_get}, specs.List.list_any, proofs.lemmas.Bool.{cases_eq, eq-eqb, ne_eqb}, proofs.lemmas.List.{get_or-map, length-map}, proofs.lemmas.List.Elements.{All-head, All-tail}, proofs.lemmas.Option.{get_or_from_slice_get, slice_get_within}, proofs.lemmas.Slice.Eq.bytes_eq-Decides}
 use Rattle.kept_desk.{specs.declared.entry.Entry.Entry, specs.Entries.of_station}
-use Rattle.ledger_model.{specs.declared.answer.Answer.Answer, specs.declared.answer.Answer.TheVariants.{Accepted, Repeat, Refused}, specs.declared.command.Command.Command, specs.Laws.{AreAccepted, IsAccepted}, specs.Step.{answer}, specs.World.{Happens, Station, World, station_after, world_after}}
+use Rattle.ledger_model.{specs.declared.answer.Answer.Answer, specs.declared.answer.Answer.TheVariants.{Accepted, Repeat, Refused}, specs.declared.command.Command.Command, specs.Laws.{AreAccepted, IsAccepted}, specs.Step.answer, specs.World.{Happens, Station, World, station_after, world_after}}
 use Rattle.script_ledgers.{specs.Drafts.{planned_world, site_name}, specs.Running.filled, specs.Script.{new_station, station_named}, proofs.Boards.one_place, proofs.Places.neither}
 use Rattle.site_desk.{specs.declared.plan.SitePlan.SitePlan, specs.declared.plan.StationPlan.StationPlan, specs.Plan.has_twice, specs.Cell.Cell}
-use Rattle.journal_script.{specs.Journals.{IsSpoken, commands_of, station_name}}
+use Rattle.journal_script.specs.Journals.{IsSpoken, commands_of, station_name}
 use Rattle.journal_laws.specs.Restores.{AreTaken}
 
 -- ---- stations of a world

@@ -4,9 +4,9 @@ use Rattle.kept_desk.{specs.declared.entry.Entry.Entry, specs.Entries.{IsNote, e
 use Rattle.ledger_model.{specs.declared.answer.Answer.TheVariants.Accepted, specs.declared.command.Command.Command, specs.Step.answer}
 use Rattle.script_lines.{specs.LineMeaning.{LineMeaning, nothing, fails, sets_limits, declares, sets_period, sets_order, sets_settle, tells, sends, delivers, commands, asks_energy, asks_export, asks_total, asks_board, lists, asks_meaning, marks, line_meaning}, specs.Lines.{HasNoFeed, Line, ended, lines_of, unended}, specs.Ranges.longest_line, specs.Texts.{answer_text, delivered_line, ended_line}, proofs.Cuts.cut-ended}
 use Rattle.script_ledgers.{specs.Drafts.planned_world, specs.Running.filled, specs.Script.{Script, by_meaning, commanded_to, delivered_to, line_step, script_after, sent_to, start, station_named, step_by, told_by}}
-use Rattle.site_desk.{specs.declared.plan.StationPlan.StationPlan}
+use Rattle.site_desk.specs.declared.plan.StationPlan.{StationPlan}
 use Rattle.transaction_event.specs.Reply.{event_reply_bytes}
-use Rattle.journal_script.{specs.Cuts.{BeginsNext, IsMark, restore_mark, run_begins}, specs.Journals.{EndsWhole, IsSpoken, station_name}, specs.Restoring.{is_cut, is_lost, is_marked, leaves_nothing, loses, marked_by, run_line}, proofs.Cuts.{All-drop, Marks, front_of, one_line, open_part, marks as marks_are, whole_lines}, proofs.LastByte.{ends_so, keeps_last, last, last_behind}, proofs.LinesRead.both_whole, proofs.Notes.{comment_feedless, comment_says, note_after, note_whole}, proofs.Steps.{cut_entry, takes_line}, proofs.Whole.{lines_apart}}
+use Rattle.journal_script.{specs.Cuts.{BeginsNext, IsMark, restore_mark, run_begins}, specs.Journals.{EndsWhole, IsSpoken, station_name}, specs.Restoring.{is_cut, is_lost, is_marked, leaves_nothing, loses, marked_by, run_line}, proofs.Cuts.{All-drop, Marks, front_of, one_line, open_part, marks as marks_are, whole_lines}, proofs.LastByte.{ends_so, keeps_last, last, last_behind}, proofs.LinesRead.both_whole, proofs.Notes.{comment_feedless, comment_says, note_after, note_whole}, proofs.Steps.{cut_entry, takes_line}, proofs.Whole.lines_apart}
 use Rattle.journal_laws.{specs.Restores.{CutJournalsRestore, HasRoom}, proofs.KeptLines.{Kept, kept_both, kept_none, kept_one, listen_fails, not_lost}, proofs.Accepted.{AreTakenBy, IsTakenBy, taken_by_world, taken_front}, proofs.LineLengths.short_line}
 
 -- ---- comments

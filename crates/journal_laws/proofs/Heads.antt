@@ -1,11 +1,11 @@
 -- A journal's head loses no line, and has no line `listen`.
-use Rattle.std.{proofs.Common.{◌≡◌, ◌≢◌, ℕ, ◌+◌, ◌≤◌, Bool, true, false, cond, List, [], ◌∷◌, ◌++◌, Option, None, Some, All, bytes_eq, length, map, refl, sym, ap, subst, ◌∙◌, arith, append_assoc, length-append}, specs.Prelude.{⊤, ◌||◌}, specs.List.{list_any, position}, proofs.lemmas.Bool.{true≢false}, proofs.lemmas.List.length-map, proofs.lemmas.List.Elements.{All-cons, All-head, All-nil, All-tail}, proofs.lemmas.Slice.Eq.bytes_eq-Decides}
+use Rattle.std.{proofs.Common.{◌≡◌, ◌≢◌, ℕ, ◌+◌, ◌≤◌, Bool, true, false, cond, List, [], ◌∷◌, ◌++◌, Option, None, Some, All, bytes_eq, length, map, refl, sym, ap, subst, ◌∙◌, arith, append_assoc, length-append}, specs.Prelude.{⊤, ◌||◌}, specs.List.{list_any, position}, proofs.lemmas.Bool.true≢false, proofs.lemmas.List.length-map, proofs.lemmas.List.Elements.{All-cons, All-head, All-nil, All-tail}, proofs.lemmas.Slice.Eq.bytes_eq-Decides}
 use Rattle.ledger_model.{specs.Limits.{AreBounds, Bounds}, specs.Periods.Periods, specs.declared.order.Order.Order, specs.declared.order.Order.TheVariants.{Sequence, Moment}, specs.declared.settle.Settle.Settle, specs.declared.settle.Settle.TheVariants.{Later, Closing, Even}, specs.World.Station}
 use Rattle.script_lines.{specs.LineMeaning.{LineMeaning, nothing, fails, declares, sets_period, sets_order, sets_settle, line_meaning}, specs.Lines.{Line, lines_of}, specs.Ranges.longest_line, specs.Texts.fault_line, specs.declared.script_line.LineFault.TheVariants.{BadLine, DeclaredLate, PlanLimit}}
 use Rattle.script_ledgers.{specs.Drafts.{planned_world, site_name}, specs.Script.{Script, declared_to, is_past_plan, is_period, joined_by, lasting, limited_to, new_station, order_to, ordered_by, period_to, settle_to, settled_by, settling, site_number, start, station_named, step_by}, proofs.Places.none_placed}
 use Rattle.site_desk.{specs.declared.plan.SitePlan.SitePlan, specs.declared.plan.StationPlan.StationPlan}
-use Rattle.journal_script.{specs.Head.{HasValues, after, limits_meaning, order_meanings, settle_meanings, site_meanings, sites_meanings, station_meanings, stations_meanings}, specs.Restoring.{leaves_nothing}, proofs.Declaring.{are_bounds, steps, steps_both, steps_of_lines}}
-use Rattle.journal_laws.{specs.Restores.{HeadsAreKept}, proofs.KeptLines.{Kept, kept_both, kept_none, kept_one, listen_fails, not_lost}}
+use Rattle.journal_script.{specs.Head.{HasValues, after, limits_meaning, order_meanings, settle_meanings, site_meanings, sites_meanings, station_meanings, stations_meanings}, specs.Restoring.leaves_nothing, proofs.Declaring.{are_bounds, steps, steps_both, steps_of_lines}}
+use Rattle.journal_laws.{specs.Restores.HeadsAreKept, proofs.KeptLines.{Kept, kept_both, kept_none, kept_one, listen_fails, not_lost}}
 
 -- ---- lines without an answer
 

@@ -1,5 +1,5 @@
 -- The parts of an even share, added up to a boundary.
-use Rattle.std.{proofs.Common.{◌≡◌, ℕ, zero, suc, ◌+◌, ◌*◌, ◌-◌, ◌/◌, ◌≤◌, ◌<◌, Bool, true, false, cond, List, [], ◌∷◌, refl, sym, ap, subst, ◌∙◌, inl, inr, ⊎_elim, append-nil, map, arith}, specs.Prelude.{sum_by, nat_lt, nat_le, not, ◌&&◌}, proofs.Math.Nat.{div-le_of_le-mul, div-mul-le_self, div-zero, mul-le-mul_left, mul-div_cancel, zero-div}, proofs.lemmas.Bool.{cases_lt, lt-ltb, le-ltb, le-leb, ltb-true, leb-true, and_parts}, proofs.lemmas.List.{Filters.sum_by-filter_both, Sums.sum_by-cons}, proofs.lemmas.Nat.{le-div, div_below}}
+use Rattle.std.{proofs.Common.{◌≡◌, ℕ, zero, suc, ◌+◌, ◌*◌, ◌-◌, ◌/◌, ◌≤◌, ◌<◌, Bool, true, false, cond, List, [], ◌∷◌, refl, sym, ap, subst, ◌∙◌, inl, inr, ⊎_elim, append-nil, map, arith}, specs.Prelude.{sum_by, nat_lt, nat_le, not, ◌&&◌}, proofs.Math.Nat.{div-le_of_le-mul, div-mul-le_self, div-zero, mul-le-mul_left, mul-div_cancel, zero-div}, proofs.lemmas.Bool.{cases_lt, lt-ltb, le-ltb, le-leb, ltb-true, leb-true, and_parts}, proofs.lemmas.List.Filters.sum_by-filter_both, proofs.lemmas.List.Sums.sum_by-cons, proofs.lemmas.Nat.{le-div, div_below}}
 use Rattle.energy_flow.specs.Flow.{difference_of}
 use Rattle.ledger_model.{specs.BoardLaws.{AreRising, IsIn}, specs.Energy.{Pair, change_of, difference, parts_of, parts_over}, specs.Parts.{Change, Part, is_shared, level_at, longest_share, share, shares, shares_from, whole}, specs.Quarter.quarter_at, specs.Settling.closed_at, specs.declared.settle.Settle.TheVariants.Even, proofs.PartLemmas.{parts_down, parts_up}, proofs.SumLemmas.sum_by-filter_cons}
 use Rattle.reading_laws.specs.EvenShares.{AreEvenShares, IsWithinDay, begun_before, evenly}
