@@ -121,7 +121,7 @@ def test_refused_messages_are_answered_once_they_are_on_disk(make_store: Make) -
 
 
 def test_a_gateway_mends_what_the_plan_declares(make_store: Make) -> None:
-    """From the moment on at which it is declared; what was refused before is marked as taken when it comes again. Each
+    """From a second after it is declared on; what was refused before is marked as taken when it comes again. Each
     mended message is counted at /metrics and kept as it came."""
     name, port = make_store(), find_port()
 
@@ -136,6 +136,7 @@ def test_a_gateway_mends_what_the_plan_declares(make_store: Make) -> None:
         assert (await ask(station, write(0))).startswith('[4,"t-0",')
         words = ["plan", "--store", name, "mend", "depot", "unit", "evse:70:1", "--why", "vendor"]
         assert await asyncio.to_thread(main, words) == 0
+        await asyncio.sleep(1.5)
         for number in (0, 0, 1, 2):
             assert await ask(station, write(number)) == make_reply("t", number)
         long = json.loads(make_event("u", 2, 3))
@@ -147,6 +148,7 @@ def test_a_gateway_mends_what_the_plan_declares(make_store: Make) -> None:
         assert (await ask(station, json.dumps(long))).startswith('[4,"u-2",')
         words = ["plan", "--store", name, "mend", "depot", "parted", "--why", "vendor"]
         assert await asyncio.to_thread(main, words) == 0
+        await asyncio.sleep(1.5)
         assert await ask(station, json.dumps(long)) == make_reply("u", 2)
         await station.close()
 

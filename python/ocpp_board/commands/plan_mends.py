@@ -13,7 +13,7 @@ from ocpp_board.store.plan import Author
 DESCRIPTION = f"""\
 Mends these faults, and no others, in what the stations of a site send from now on, whether by a gateway, a feed, a log
 or a script: {'; '.join(f'{fault}, {about}' for fault, about in ABOUT.items())}. Each mended message is counted, and the
-store keeps it as it came. Without a fault nothing is mended any more."""
+store keeps it as it came. Gateways follow within a second. Without a fault nothing is mended any more."""
 
 
 def add_plan_words(group: Any) -> None:

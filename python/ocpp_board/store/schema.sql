@@ -25,6 +25,7 @@ create table site (
     first_settled_day date,
     place int not null default 0                -- the order of sites on pages
 );
+create index site_mends on site (site) where mends <> '';
 -- A station's site is the one that its next transactions belong to.
 create table station (
     station text /*postgresql collate "C"*/ primary key,
