@@ -1,6 +1,8 @@
 """Energies in whole milliwatt-hours: what registers rose and fell by, and how that is written in kWh."""
 
+import re
 from collections.abc import Iterable
+from decimal import Decimal
 from functools import lru_cache
 from typing import NamedTuple
 
@@ -8,6 +10,8 @@ from typing import NamedTuple
 FLOW = ("up", "down", "export_up", "export_down")
 MWH_OF_A_KWH = 1_000_000
 MINUS = "\N{MINUS SIGN}"
+# An energy in kWh as people write it.
+ENERGY = re.compile(r"-?[0-9]{1,7}(\.[0-9]{1,6})?")
 # How many energies have their texts kept, since pages have many of them again.
 KEPT_TEXTS = 65_536
 
@@ -45,6 +49,11 @@ class Flow(NamedTuple):
 def sum_of(flows: Iterable[Flow]) -> Flow:
     """All these together."""
     return Flow(*map(sum, zip(*flows)))
+
+
+def read_mwh(text: str) -> int:
+    """The mWh of an energy in kWh that is an ENERGY."""
+    return int(Decimal(text).scaleb(6))
 
 
 @lru_cache(KEPT_TEXTS)

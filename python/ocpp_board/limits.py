@@ -37,3 +37,7 @@ MOMENT = "%Y-%m-%dT%H:%M:%SZ"
 def is_name(text: str) -> bool:
     """Whether a text may be the name of a site or a station."""
     return NAME.fullmatch(text) is not None
+
+
+# Hours without a message after which a session that lacks some is silent, where no others are asked for.
+SILENT_HOURS = 24

@@ -81,7 +81,8 @@ class Answer:
     `outcome`: `accepted` (a change that is stored), `repeat` (stored before), `refused` (by the ledger or by a check of
     the message), `reply` (a ready reply that stores nothing), `silent` (no reply), `stray` (no site has the station),
     `fault` (no line of a ledger), `untaken`. `name`: that of a refusal or a fault; `reply`: the OCPP reply to send;
-    `transaction`: the id as the ledger shows it; `count`: the number of the transaction's accepted change.
+    `transaction`: the id as the ledger shows it; `count`: the number of the transaction's accepted change; `mends`: the
+    faults that were mended as the plan declares.
     """
 
     outcome: str
@@ -89,6 +90,7 @@ class Answer:
     reply: str | None = None
     transaction: str | None = None
     count: int = 0
+    mends: str = ""
 
 
 @dataclass(frozen=True, slots=True)

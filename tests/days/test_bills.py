@@ -13,6 +13,8 @@ from ocpp_board.errors import UsageError
 from ocpp_board.ledger.engine import settle
 from ocpp_board.records import Message
 from ocpp_board.store.closing import close_day
+from ocpp_board.ledger.program import find_program
+from ocpp_board.ledger.resets import list_resets
 from ocpp_board.store.database import Database
 from ocpp_board.store.decisions import (
     adjust,
@@ -20,7 +22,6 @@ from ocpp_board.store.decisions import (
     declare_estimate,
     declare_exchange,
     list_open,
-    propose_exchanges,
     release,
     settle_by_rule,
 )
@@ -161,18 +162,17 @@ def test_a_held_session_is_released_for_the_figures_that_it_has(store: Database)
 
 def test_adjustments_stand_beside_the_ledgers_number(store: Database) -> None:
     send(store, "A", reset("t1", FIRST))
-    (row,) = propose_exchanges(store, SITE)
-    assert row.down == 10_000_000
+    (one,) = list_resets(store, find_program(), SITE)
+    assert (one.old_end, one.new_begin, one.at) == (10_000_000, 0, FIRST + 1.5 * STEP)
     before = read_bills(store)["A"]
     assert before["total_energy"] == "-0.005" and "negative energy" in before["hold"]
-    one = declare_exchange(store, "A", 1, FIRST + 1.5 * STEP, 10_400_000, 0)
-    adjust(store, one, AUTHOR)
+    adjust(store, declare_exchange(store, "A", 1, one.at, 10_400_000, 0), AUTHOR)
     after = read_bills(store)["A"]
     # 5.4 by the old meter, 4.995 by the new one.
     assert (after["total_energy"], after["adjusted_energy"]) == ("-0.005", "10.395")
     assert after["adjustments"] == "exchange 10.4 kWh by tests: a test"
     assert "negative energy" not in after["hold"]
-    assert propose_exchanges(store, SITE) == []
+    assert not [*list_resets(store, find_program(), SITE)]
     adjust(store, declare_credit(store, "A", "T1", -400_000, 0), AUTHOR)
     assert read_bills(store)["A"]["adjusted_energy"] == "9.995"
     with pytest.raises(UsageError, match="no session of EVSE 2 of A ran at"):

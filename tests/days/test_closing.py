@@ -270,6 +270,9 @@ def test_corrections_name_their_lines(store: Database) -> None:
     }
     assert sum(float(row["net_kwh"]) for row in found) == pytest.approx(-0.25)
     assert found[0]["period_start_local"] == "2026-03-01 09:15"
+    assert {(row["figure"], row["findings"], row["holds"]) for row in found} == {
+        ("measured", "0", "0")
+    }
     assert len(list(list_rows(store, SITE, date(2026, 3, 4)))) == 1
 
 

@@ -64,7 +64,7 @@ def test_a_correction_keeps_the_session_complete(store: Database) -> None:
     ]
     prepared = prepare(store, find_program(), wanted, AUTHOR)
     assert store.fetch("select lines from session")[0].lines == row.lines == 4
-    assert "then 0.750 kWh; complete, then complete" in describe(prepared[0])[0]
+    assert "then 0.750 kWh; messages complete, then messages complete" in describe(prepared[0])[0]
     correct(store, prepared)
     (after,) = store.fetch("select up, down, complete, lines from session")
     assert tuple(after) == (750_000, 0, True, 13)

@@ -13,22 +13,18 @@ import pytest
 
 from ocpp_board.passwords import make_password
 from ocpp_board.store.database import open_store
+from tests.cluster import Cluster
 from tests.gateway.client import PASSWORD
-from tests.gateway.cluster import Cluster, keep_cluster
+from tests.store.conftest import running_cluster
 
+# The fixture of all tests on PostgreSQL.
+__all__ = ["running_cluster"]
 TOP = Path(__file__).resolve().parent.parent.parent
 SITE = "depot"
 NUMBERS = itertools.count()
 Make = Callable[..., str]
 # Seconds for a test, on a machine with much else to do.
 LONGEST_TEST = 240.0
-
-
-@pytest.fixture(name="cluster", scope="session")
-def kept_cluster() -> Iterator[Cluster]:
-    """A server of PostgreSQL for all tests that do it no harm."""
-    with keep_cluster(is_durable=False) as cluster:
-        yield cluster
 
 
 def fill_store(name: str, stations: int = 3, front: str = "CS", site: str = SITE) -> str:

@@ -13,7 +13,7 @@ import subprocess
 import sys
 import time
 
-from tests.gateway.cluster import (
+from tests.cluster import (
     TOP,
     Cluster,
     GatewayPart,

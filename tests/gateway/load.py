@@ -250,8 +250,9 @@ class Station(asyncio.Protocol):
             self.send_next()
 
     async def begin_together(self) -> None:
-        """The same, once all are connected."""
+        """The same, once all are connected; with a rate, at a drawn moment of the first turn."""
         await self.load.all_here.wait()
+        await asyncio.sleep(random.random() * self.pause)
         self.send_next()
 
     def send_next(self) -> None:

@@ -3,7 +3,7 @@
 import asyncio
 import threading
 
-from tests.gateway.cluster import find_port
+from tests.cluster import find_port
 
 
 class Proxy:

@@ -22,8 +22,7 @@ from collections import Counter
 
 from ocpp_board.ledger.verify import verify
 from ocpp_board.store.database import open_store
-from tests.gateway.client import find_status
-from tests.gateway.cluster import (
+from tests.cluster import (
     Cluster,
     GatewayPart,
     count_seconds,
@@ -31,6 +30,7 @@ from tests.gateway.cluster import (
     kill_all,
     list_children,
 )
+from tests.gateway.client import find_status
 from tests.gateway.conftest import fill_store
 from tests.gateway.load import Load, Plan, Seen
 from tests.gateway.proxy import Proxy

@@ -24,6 +24,7 @@ from ocpp_board.gateway.certificates import (
     read_revoked,
     read_subject,
 )
+from tests.cluster import GatewayPart
 from tests.gateway.client import (
     ask,
     connect_station,
@@ -32,7 +33,6 @@ from tests.gateway.client import (
     make_reply,
     wait_for_close,
 )
-from tests.gateway.cluster import GatewayPart
 
 Make = Callable[..., str]
 

@@ -11,6 +11,7 @@ from websockets.exceptions import ConnectionClosed
 from ocpp_board.store import stations
 from ocpp_board.store.database import open_store
 from ocpp_board.store.plan import Author, retire_station
+from tests.cluster import GatewayPart
 from tests.gateway.client import (
     PASSWORD,
     ask,
@@ -20,7 +21,6 @@ from tests.gateway.client import (
     make_reply,
     wait_for_close,
 )
-from tests.gateway.cluster import GatewayPart
 
 Make = Callable[..., str]
 HEARTBEAT = '[2,"h","Heartbeat",{}]'

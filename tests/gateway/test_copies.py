@@ -15,8 +15,8 @@ from ocpp_board.ledger.engine import settle
 from ocpp_board.ledger.verify import verify
 from ocpp_board.records import Message
 from ocpp_board.store.database import open_store
+from tests.cluster import BIN, Cluster, GatewayPart
 from tests.gateway.client import make_event
-from tests.gateway.cluster import BIN, Cluster, GatewayPart
 from tests.gateway.conftest import fill_store
 from tests.gateway.test_faults import STATIONS, check_store, play
 

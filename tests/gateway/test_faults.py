@@ -13,8 +13,8 @@ import pytest
 
 from ocpp_board.ledger.verify import verify
 from ocpp_board.store.database import open_store
+from tests.cluster import Cluster, GatewayPart, keep_cluster, kill_all, list_children
 from tests.gateway.client import ask, connect_station, make_event, make_reply, wait_for_close
-from tests.gateway.cluster import Cluster, GatewayPart, keep_cluster, kill_all, list_children
 from tests.gateway.conftest import NUMBERS, fill_store
 from tests.gateway.load import Load, Plan, Seen
 from tests.gateway.proxy import Proxy

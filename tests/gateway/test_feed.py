@@ -17,8 +17,8 @@ from ocpp_board.errors import UsageError
 from ocpp_board.ledger.verify import verify
 from ocpp_board.messages.texts import Refused
 from ocpp_board.store.database import open_store
+from tests.cluster import Part, find_port, keep_cluster, make_folder
 from tests.gateway.client import make_event
-from tests.gateway.cluster import Part, find_port, keep_cluster, make_folder
 from tests.gateway.conftest import fill_store
 
 Make = Callable[..., str]

@@ -16,8 +16,8 @@ from ocpp_board.records import Message
 from ocpp_board.store.database import open_store
 from ocpp_board.store.plan import Author, write_station
 from ocpp_board.store.stations import write_quota
+from tests.cluster import GatewayPart, find_port
 from tests.gateway.client import ask, connect_station, make_event, make_reply
-from tests.gateway.cluster import GatewayPart, find_port
 
 Make = Callable[..., str]
 AUTHOR = Author("jo", "a trial")

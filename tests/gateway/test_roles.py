@@ -15,8 +15,8 @@ from ocpp_board.records import Deed, Message
 from ocpp_board.store.database import PARTITIONS, open_store
 from ocpp_board.store.plan import Author, write_station
 from ocpp_board.store.stations import set_password
+from tests.cluster import Cluster, GatewayPart
 from tests.gateway.client import ask, connect_station, make_event, make_reply
-from tests.gateway.cluster import Cluster, GatewayPart
 
 Make = Callable[..., str]
 ROLES = Path(ocpp_board.store.__file__).parent / "roles.sql"

@@ -16,8 +16,8 @@ import pytest
 from ocpp_board.ledger.engine import settle
 from ocpp_board.records import Message
 from ocpp_board.store.database import open_store
+from tests.cluster import TOP, Cluster, GatewayPart, find_port, keep_cluster
 from tests.gateway.client import ask, connect_station, find_status, make_event, make_reply
-from tests.gateway.cluster import TOP, Cluster, GatewayPart, find_port, keep_cluster
 from tests.gateway.conftest import fill_store
 
 Make = Callable[..., str]

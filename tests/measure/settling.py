@@ -22,11 +22,11 @@ from ocpp_board.ledger.program import find_program
 from ocpp_board.records import Asked, Message, Rules
 from ocpp_board.store.database import Database, open_store
 from ocpp_board.store.lines import Warm
-from tests.store.cluster import run_cluster
+from tests.cluster import keep_cluster
 from tests.store.scene import check, plan
 from tests.traffic.script import FIRST, START, kind_of, message
 
-STATIONS, ROUNDS, LAST = 60, 3, 40
+STATIONS, ROUNDS, LAST = 60, 3, 200
 SITE_SECONDS, RISE = 60, 50
 
 
@@ -118,7 +118,7 @@ def main() -> None:
     parser.add_argument("what", choices=["growing", "batches"])
     parser.add_argument("--events", type=int, default=48, metavar="N")
     words = parser.parse_args(sys.argv[1:])
-    with run_cluster() as cluster, open_store(cluster.make_database()) as store:
+    with keep_cluster(is_durable=False) as cluster, open_store(cluster.create("ledger")) as store:
         run = measure_growing if words.what == "growing" else measure_batches
         print(run(store, words.events))
         check(store)

@@ -4,19 +4,24 @@
 
 PROGRAM `serve`s the stations A and B of site north and C of site south, once or more often a scene: connections
 that are silent, fail or are cut, after each byte of a session and of a request too, many at once, an event that is
-sent again, and the lines of a viewer; then eight stations of two sites, whose drawn events a replay answers too.
+sent again, and the lines of a viewer; then eight stations of two sites, whose drawn events a replay answers too; and
+a simulated station whose connection breaks.
 What has to come of it are the frames (RFC 6455) behind the answers to the handshakes, the boards when all
-connections have ended, nothing else, and status 0.
+connections have ended, nothing else, and status 0; of the simulated station a fault, and status 1.
 
 Exit status: 0; 1 when a scene is not as it should be; 2 when the program can't be started.
 """
 
+import os
 import re
+import shutil
 import subprocess
 import sys
+import tempfile
 import threading
 from collections.abc import Callable, Iterator
 from concurrent.futures import ThreadPoolExecutor
+from pathlib import Path
 from typing import NamedTuple
 
 from tests.scenes.client import (
@@ -40,6 +45,26 @@ from tests.scenes.servers import PARTS, Server, boards
 
 # How many connections a server serves at most.
 MOST_CONNECTIONS = 64
+
+# Loaded before the C library: the socket that connects first can't be read any more after two reads.
+BREAKS = r"""
+#define _GNU_SOURCE
+#include <dlfcn.h>
+#include <errno.h>
+#include <sys/socket.h>
+static int first = -1, reads;
+int connect(int socket, const struct sockaddr *address, socklen_t length) {
+    int (*call)(int, const struct sockaddr *, socklen_t) = dlsym(RTLD_NEXT, "connect");
+    if (first < 0) first = socket;
+    return call(socket, address, length);
+}
+ssize_t recv(int socket, void *bytes, size_t length, int flags) {
+    ssize_t (*call)(int, void *, size_t, int) = dlsym(RTLD_NEXT, "recv");
+    if (socket != first || ++reads <= 2) return call(socket, bytes, length, flags);
+    errno = ECONNRESET;
+    return -1;
+}
+"""
 
 
 class Whole(NamedTuple):
@@ -263,6 +288,28 @@ def eight_stations_on_two_sites(program: str) -> None:
             raise Differs(f"the totals of {site} went back: {seen}")
 
 
+def simulated_station_fails(program: str) -> None:
+    """The connection of one of two simulated stations breaks in its session: `sim` reports it, and no board."""
+    compiler = shutil.which("cc")
+    if compiler is None:
+        print("simulated_station_fails: not tried, there is no cc")
+        return
+    with tempfile.TemporaryDirectory() as folder:
+        breaks = Path(folder, "breaks.so")
+        command = [compiler, "-shared", "-fPIC", "-x", "c", "-", "-o", str(breaks), "-ldl"]
+        subprocess.run(command, input=BREAKS, text=True, check=True)
+        run = subprocess.run(
+            [program, "sim", "--stations", "2", "--events", "3"],
+            env={**os.environ, "LD_PRELOAD": str(breaks)},
+            capture_output=True,
+            timeout=LONGEST_WAIT,
+            check=False,
+        )
+    ended = (run.returncode, run.stdout, run.stderr)
+    if ended != (1, b"", b"fault ReadFault\n"):
+        raise Differs(f"sim ends with {ended}")
+
+
 SCENES: tuple[Callable[[str], None], ...] = (
     boards_come_when_all_have_ended,
     event_is_sent_again_after_a_cut,
@@ -273,6 +320,7 @@ SCENES: tuple[Callable[[str], None], ...] = (
     session_ends_or_fails_after_each_byte,
     request_ends_or_fails_after_each_byte,
     eight_stations_on_two_sites,
+    simulated_station_fails,
 )
 
 

@@ -15,19 +15,10 @@ from collections.abc import Iterator
 from datetime import datetime, timedelta, timezone
 from typing import Any
 
-from ocpp_board.store.database import Database, open_store
+from ocpp_board.store.database import Database, count_days, open_store
 
 QUARTER = timedelta(minutes=15)
 BEGIN = datetime(2026, 1, 1, tzinfo=timezone.utc)
-SESSION = (
-    "station, transaction_id, site, lines, evse, events, voided, first_number, last_number, complete, missing, gaps, "
-    "up, state, began, ended, first_at, last_at, first_register, last_register, stopped_reason, sent_id, token, "
-    "token_type, received_until, changed_at"
-)
-PART = (
-    "station, transaction_id, starts, up, down, export_up, export_down, on_board, measured, shared, "
-    "numbers_missing"
-)
 ROWS_AT_ONCE = 20_000
 
 
@@ -82,11 +73,12 @@ def make_session(
         "missing": int(lacks),
         "gaps": "3..3" if lacks else "",
         "up": sum(energies),
-        "state": "numbers missing" if lacks else "complete",
+        "state": "numbers missing" if lacks else "messages complete",
         "began": began,
         "ended": ended,
         "first_at": began,
         "last_at": ended,
+        "last_day": count_days(ended),
         "first_register": register,
         "last_register": register + sum(energies),
         "stopped_reason": "EVDisconnected",
@@ -94,6 +86,10 @@ def make_session(
         "token_type": "ISO14443",
         "received_until": ended,
         "changed_at": ended,
+        "energy_measured": "yes",
+        "first_reading_at": began,
+        "last_reading_at": ended,
+        "peak_w": max(energies) * 4 // 1_000,
     }
     parts: list[dict[str, Any]] = [
         {

@@ -3,6 +3,7 @@
 The program is that of OCPP_BOARD_PROGRAM or OCPP_LEDGER_LIBRARY, else that of the checkout or of the system.
 """
 
+import itertools
 from collections.abc import Iterator
 from pathlib import Path
 
@@ -12,7 +13,9 @@ from ocpp_board.errors import ProgramError
 from ocpp_board.ledger.answers import Wish
 from ocpp_board.ledger.program import Program, find_program
 from ocpp_board.store.database import Database, open_store
-from tests.store.cluster import Cluster, explain_lack, run_cluster
+from tests.cluster import Cluster, explain_lack, keep_cluster
+
+NUMBERS = itertools.count()
 
 
 @pytest.fixture(scope="session", name="program")
@@ -28,10 +31,10 @@ def found_program() -> Program:
 
 @pytest.fixture(scope="session", name="cluster")
 def running_cluster() -> Iterator[Cluster]:
-    """A PostgreSQL of these tests."""
+    """A PostgreSQL for all tests that do it no harm."""
     if lack := explain_lack():
         pytest.skip(lack)
-    with run_cluster() as cluster:
+    with keep_cluster(is_durable=False) as cluster:
         yield cluster
 
 
@@ -42,7 +45,7 @@ def named_store(request: pytest.FixtureRequest, tmp_path: Path, program: Program
     if request.param == "sqlite":
         return str(tmp_path / "ledger.db")
     cluster: Cluster = request.getfixturevalue("cluster")
-    return cluster.make_database()
+    return cluster.create(f"store_{next(NUMBERS)}")
 
 
 @pytest.fixture(name="store")

@@ -137,7 +137,8 @@ def test_operate(store: Database, store_name: str) -> None:
     ran = run(*words, "void", "CS-01", "T1", "2", *why)
     assert ran.status == 0
     assert (
-        ran.out == "accepted 4: 0.500 kWh, complete before, 0.250 kWh, voided by jo: no end now\n"
+        ran.out
+        == "accepted 4: 0.500 kWh, messages complete before, 0.250 kWh, voided by jo: no end now\n"
     )
     ran = run(*words, "void", "CS-01", "T1", "2", *why)
     assert ran.status == 1

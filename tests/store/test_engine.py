@@ -1,6 +1,5 @@
 """The engine: what each text and each operator's line is answered, and what is stored then."""
 
-import multiprocessing
 import os
 import signal
 import sqlite3
@@ -45,7 +44,7 @@ def test_session(store: Database) -> None:
     assert answers[0].reply == '[3,"T1-0",{}]'
     (row,) = store.fetch("select * from session")
     assert (row.site, row.lines, row.events, row.complete, row.missing) == ("north", 5, 5, True, 0)
-    assert (row.up, row.down, row.state, row.sent_id) == (1_000_000, 0, "complete", "T1")
+    assert (row.up, row.down, row.state, row.sent_id) == (1_000_000, 0, "messages complete", "T1")
     assert (row.first_register, row.last_register) == (1_000_000, 2_000_000)
     assert (row.began, row.first_at) == (START, START)
     parts = store.fetch("select starts, up, measured from part order by starts")
@@ -151,7 +150,7 @@ def test_deeds(store: Database) -> None:
     late = message("CS-01", write_event("T1", 1, "Updated", 15, [(15, 1_300)]))
     assert list_outcomes(ask(store, late)) == ["accepted"]
     (row,) = store.fetch("select * from session")
-    assert (row.events, row.voided, row.complete, row.state) == (4, 0, True, "complete")
+    assert (row.events, row.voided, row.complete, row.state) == (4, 0, True, "messages complete")
 
 
 def test_all_voided(store: Database) -> None:
@@ -323,20 +322,6 @@ def test_meter_values(store: Database) -> None:
     assert [(row.evse, row.at.minute, row.up_register) for row in rows] == wanted
     ask(store, read(6, 120), message("CS-01", '[2,"m","MeterValues",{"evseId":[]}]'))
     assert len(store.fetch("select * from meter_value")) == 4
-
-
-def test_pool(store: Database) -> None:
-    """Processes among which the work is parted give the same rows."""
-    plan(store)
-    lines = [one for number in range(40) for one in write_session("CS-01", f"T{number}", 4, number)]
-    settle(store, lines)
-    alone = read_all(store)
-    for table in ("line", "part", "finding", "session"):
-        store.execute(f"delete from {table}")
-    with multiprocessing.get_context("forkserver").Pool(2) as pool:
-        settle(store, lines, pool)
-    assert read_all(store) == alone
-    check(store)
 
 
 def test_settlers(store: Database, store_name: str) -> None:

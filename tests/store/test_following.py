@@ -1,16 +1,24 @@
 """`ocpp-board follow` beside a CSMS's log: rotations, cuts, kills, two at once, an operator, strays, refusals."""
 
+import contextlib
+import itertools
+import multiprocessing
+import os
 import random
 import shutil
 import signal
+import sqlite3
 import subprocess
 import time
+from collections.abc import Sequence
 from pathlib import Path
+from typing import Any
 
 import pytest
 
-from ocpp_board.store.database import open_store
-from tests.store.beside import HEARTBEAT, LONGEST_WAIT, follow_beside, message, row
+from ocpp_board import cli
+from ocpp_board.store.database import SqliteDatabase, open_store
+from tests.store.beside import HEARTBEAT, LONGEST_WAIT, TOOL, follow_beside, message, row
 
 # What cuts an operator's line from who and why.
 VOID = "void A T1 1 # jo: meter exchanged"
@@ -230,6 +238,107 @@ def test_a_kill_at_drawn_moments_loses_nothing(tmp_path: Path) -> None:
             assert len(store.fetch("select number from line")) == count
 
 
+def run_until(words: Sequence[str], last: int) -> None:
+    """Runs a command in this process, which is killed at its statement of this number."""
+    numbers = itertools.count(1)
+
+    def watch(name: str) -> None:
+        own = getattr(SqliteDatabase, name)
+
+        def run(store: SqliteDatabase, *more: Any, **values: Any) -> Any:
+            if next(numbers) == last:
+                os.kill(os.getpid(), signal.SIGKILL)
+            return own(store, *more, **values)
+
+        setattr(SqliteDatabase, name, run)
+
+    for name in ("execute", "execute_each", "execute_rows", "fetch"):
+        watch(name)
+    # With one processor it starts no others.
+    os.sched_setaffinity(0, {min(os.sched_getaffinity(0))})
+    os._exit(cli.main(words))
+
+
+def test_a_kill_at_each_of_100_statements_takes_no_line_twice(tmp_path: Path) -> None:
+    """Each run finds two lines more, and is killed at a later statement: while it opens the store, settles, or writes
+    its pages. The next one goes on where it was."""
+    fork, of_each = multiprocessing.get_context("fork"), 25
+    with follow_beside(tmp_path) as run:
+        run.write(row(message(0, "Started", tx="T0")))
+        run.run_once()
+        words, killed = run.words("--once")[len(TOOL) :], 0
+        for number in range(1, 101):
+            for place in (2 * number - 1, 2 * number):
+                kind = "Updated" if place % of_each else "Started"
+                run.write(row(message(place % of_each, kind, tx=f"T{place // of_each}")))
+            process = fork.Process(target=run_until, args=(words, number))
+            process.start()
+            process.join(LONGEST_WAIT)
+            killed += process.exitcode == -signal.SIGKILL
+            assert process.exitcode in (0, -signal.SIGKILL)
+        assert killed >= 90
+        with open_store(run.store) as store:
+            had = sum(one.events for one in store.fetch("select events from session"))
+            assert had == len(store.fetch("select 1 as one from line"))
+            assert had > 100
+        run.run_once()
+        assert sum(run.events().values()) == 201
+        assert len(run.table("transactions")) == len(run.events()) == 9
+
+
+@pytest.mark.skipif(os.getuid() != 0, reason="only root mounts a file system")
+def test_a_full_disk_is_waited_for(tmp_path: Path) -> None:
+    """While the store has no room, the follower tries again, and takes nothing in part."""
+    disk = tmp_path / "disk"
+    disk.mkdir()
+    mount = ["mount", "-t", "tmpfs", "-o", "size=8m", "tmpfs", str(disk)]
+    if subprocess.run(mount, check=False, capture_output=True).returncode:
+        pytest.skip("no file system can be mounted here")
+    try:
+        with follow_beside(tmp_path, str(disk / "store.db")) as run:
+            run.write(row(message(0, "Started")))
+            run.start()
+            run.wait("the first event", run.has_events(1))
+            with open(disk / "ballast", "wb") as file, contextlib.suppress(OSError):
+                file.write(b"\0" * shutil.disk_usage(disk).free)
+            sent = [(n, f"N{tx}") for tx in range(60) for n in range(40)]
+            run.write(*(row(message(n, "Updated" if n else "Started", tx=tx)) for n, tx in sent))
+            time.sleep(3)
+            with sqlite3.connect(f"file:{run.store}?mode=ro", uri=True) as store:
+                assert store.execute("select count(*) from line").fetchone() == (1,)
+            (disk / "ballast").unlink()
+            run.wait("all events", lambda: sum(run.events().values()) == 1 + len(sent))
+            status, said = run.end()
+            assert status == 0 and "disk is full; tried again" in said, said
+    finally:
+        subprocess.run(["umount", "-l", str(disk)], check=False)
+
+
+def test_only_what_changed_is_written(tmp_path: Path) -> None:
+    def list_written() -> dict[Path, int]:
+        return {path: path.stat().st_mtime_ns for path in out.rglob("*") if path.is_file()}
+
+    with follow_beside(tmp_path) as run:
+        (run.folder / "stations").write_text("north A\nsouth B\n")
+        for station in "AB":
+            run.write(row(message(0, "Started"), station), row(message(1, "Ended"), station))
+        out = run.folder / "out"
+        run.start()
+        run.wait("both sessions", lambda: len(run.events()) == 2 and (out / ".renewed").exists())
+        before = list_written()
+        run.write(row(message(0, "Started", tx="T2")))
+        run.wait("the third one", lambda: len(run.table("transactions")) == 2)
+        run.end()
+        written = {path for path, at in list_written().items() if before.get(path) != at}
+        assert out / "index.html" in written and [
+            path for path in written if path.name == "session-t2.html"
+        ]
+        assert not [path for path in written if path.is_relative_to(out / "south")]
+        # The page of the other transaction of the same station and day stays.
+        assert [path for path in before if path.name == "session-t1.html"]
+        assert not [path for path in written if path.name == "session-t1.html"]
+
+
 def test_a_signal_writes_the_pages_once_more(tmp_path: Path) -> None:
     with follow_beside(tmp_path) as run:
         run.start("--every", "600")
@@ -265,7 +374,8 @@ def test_mended_messages_are_listed(tmp_path: Path) -> None:
 def test_rules_of_sites_are_those_of_the_words(tmp_path: Path) -> None:
     with follow_beside(tmp_path) as run:
         run.write(row(message(0, "Started")), row(message(1, "Ended")))
-        run.run_once("--period", "north=300", "--settle", "later", "--tz", "Europe/Berlin")
+        words = ["--period", "north=300", "--settle", "later", "--tz", "Europe/Berlin"]
+        run.run_once(*words, "--order", "sequence")
         periods = [one for one in run.table("periods") if one["level"] == "site"]
         assert [one["seconds"] for one in periods] == ["300"]
         assert periods[0]["period start (Europe/Berlin)"] == "2026-03-01T11:00:00+01:00"
@@ -274,6 +384,32 @@ def test_rules_of_sites_are_those_of_the_words(tmp_path: Path) -> None:
         run.write(row(message(2)))
         run.run_once()
         assert run.table("periods")[0]["seconds"] == "300"
+        with open_store(run.store) as store:
+            (site,) = store.fetch("select reading_order, settle from site")
+            assert tuple(site) == ("sequence", "later")
+
+
+def test_tokens_are_shown_as_the_words_say(tmp_path: Path) -> None:
+    token = '"idToken":{"idToken":"AA11BB22","type":"ISO14443"},"transactionInfo"'
+    for how in ("none", "hash", "plain"):
+        folder = tmp_path / how
+        folder.mkdir()
+        with follow_beside(folder) as run:
+            run.write(row(message(0, "Started").replace('"transactionInfo"', token)))
+            run.run_once("--tokens", how)
+            files = [path for path in (folder / "out").rglob("*") if path.is_file()]
+            has_token = any("AA11BB22" in path.read_text("utf-8") for path in files)
+            assert has_token == (how == "plain")
+
+
+def test_pages_say_that_their_data_is_too_old(tmp_path: Path) -> None:
+    with follow_beside(tmp_path) as run:
+        run.write(row(message(0, "Started")))
+        for words, is_old in ((("--oldest", "3600"), True), ((), False)):
+            shutil.rmtree(tmp_path / "out", ignore_errors=True)
+            run.run_once(*words)
+            page = (tmp_path / "out/north/index.html").read_text("utf-8")
+            assert ("older than it should be" in page) == is_old
 
 
 @pytest.mark.parametrize(

@@ -6,6 +6,7 @@ import io
 import json
 from datetime import datetime, timezone
 from pathlib import Path
+from typing import Any
 from zoneinfo import ZoneInfo
 
 import pytest
@@ -199,3 +200,37 @@ def test_refusals_name_the_option() -> None:
     value = sent(0).replace('T08:00:00"', 'T08:00:00Z"')
     assert "--mend SITE=text-value" in message_fault(value, "WrongType")[1]
     assert "--mend SITE=no-offset:ZONE" in message_fault(sent(0), "Moment")[1]
+
+
+def test_meter_values_are_mended_whatever_else_is_declared() -> None:
+    """They have no transaction and no time of their own."""
+    words = ("unit", "ids", "begin-at-end", "unset-clock", "parted", "evse:70:1", "negative")
+    value = '{"timestamp":"2026-03-01T10:00:00Z","sampledValue":[{"value":1,"unitOfMeasure":{"unit":"KWH"}}]}'
+    text = f'[2,"1","MeterValues",{{"evseId":70,"meterValue":[{value}]}}]'
+    found = mender(*(f"a={word}" for word in words)).mend("a", "A", text, FIRST)
+    assert found.faults == ("evse", "unit")
+    assert '"evseId":1' in found.texts[0] and '"unit":"kWh"' in found.texts[0]
+
+
+def test_an_event_that_is_no_end_is_not_parted() -> None:
+    """OCPP leaves no number for its parts, and the advice says so."""
+    value = {"timestamp": "2026-03-01T10:00:00Z", "sampledValue": [{"value": 1}] * 1_025}
+    for kind, advised in (
+        ("Ended", "--mend parted"),
+        ("Updated", "counts a transaction's events by 1"),
+    ):
+        payload: dict[str, Any] = {
+            "eventType": kind,
+            "timestamp": "2026-03-01T10:00:00Z",
+            "triggerReason": "EVDeparted",
+        }
+        payload |= {
+            "seqNo": 4,
+            "transactionInfo": {"transactionId": "t"},
+            "meterValue": [value, value],
+        }
+        text = json.dumps([2, "m", "TransactionEvent", payload])
+        parts = mender("a=parted").mend("a", "A", text, FIRST).texts
+        assert len(parts) == (3 if kind == "Ended" else 1)
+        said = message_fault(text, "TooManyReadings")
+        assert said and advised in said[1]

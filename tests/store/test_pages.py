@@ -1,12 +1,13 @@
 """Pages of a store as files: the figures of its views, links, labels, tokens, sizes, and what is written again."""
 
 import hashlib
+import json
 import os
 import re
 import subprocess
 import sys
 from collections.abc import Iterator
-from datetime import datetime, timezone
+from datetime import datetime, timedelta, timezone
 from pathlib import Path
 from urllib.parse import unquote
 
@@ -14,7 +15,9 @@ import pytest
 
 from ocpp_board.energies import kwh
 from ocpp_board.ledger.engine import settle
+from ocpp_board.records import LeftOut, Rules
 from ocpp_board.store.database import Database
+from ocpp_board.store.lines import note_left_out
 from ocpp_board.writers.pages import PageOptions, PageWriter, write_pages
 from tests.page_check import Check
 from tests.store.scene import deed, message, plan, write_event
@@ -209,3 +212,37 @@ def test_old_pages_go(store: Database, tmp_path: Path) -> None:
     write_pages(store, tmp_path, OPTIONS)
     assert not (folder / "session-gone.html").exists()
     assert (folder / "notes.html").exists()
+
+
+def test_pages_that_change_without_a_session(store: Database, tmp_path: Path) -> None:
+    """A session becomes silent by time only; stations of another version are named; main meters have a page."""
+    plan(store, Rules(), "north", "A", "B")
+    settle(store, [message("A", write_event("T1", 0, "Started", 0, [(0, 1_000)]), 0)])
+    settle(store, [message("B", write_event("T2", 0, "Started", 900, [(900, 1_000)]), 900)])
+    first = datetime(2026, 3, 1, tzinfo=timezone.utc)
+    at = min(row.heard_at for row in store.fetch("select heard_at from lacking"))
+    writer = PageWriter(store, tmp_path, PageOptions(written=at + timedelta(hours=30)))
+    writer.write_all()
+    assert writer.write_others() == 0
+    pages = list_pages(tmp_path)
+    assert "session-t1.html" in pages["north/silent.html"] and at > first
+    assert "session-t2.html" not in pages["north/silent.html"]
+    assert all(f"session-{name}.html" in pages["north/lacking.html"] for name in ("t1", "t2"))
+    writer.options = PageOptions(written=at + timedelta(hours=48), silent=30)
+    assert writer.write_others() == 1
+    assert "session-t2.html" in (tmp_path / "north/silent.html").read_text()
+    assert writer.write_others() == 0
+    with store.transaction():
+        note_left_out(store, [LeftOut("OLD", "ocpp1.6", "north", None, None)])
+        note_left_out(store, [LeftOut("LOST", "ocpp1.6", "nowhere", None, None)])
+    assert writer.write_others() == 2
+    site, index = (list_pages(tmp_path)[name] for name in ("north/index.html", "index.html"))
+    assert "another version of OCPP: OLD (ocpp1.6)." in site and "LOST" not in site
+    assert "another version of OCPP: LOST (ocpp1.6)." in index
+    value = [{"timestamp": "2026-03-01T10:00:00Z", "sampledValue": [{"value": 1_000}]}]
+    value += [{"timestamp": "2026-03-01T11:00:00Z", "sampledValue": [{"value": 5_000}]}]
+    text = json.dumps([2, "m", "MeterValues", {"evseId": 0, "meterValue": value}])
+    settle(store, [message("A", text, 60)])
+    assert writer.write_others() == 1
+    page = (tmp_path / "north/site-meter.html").read_text()
+    assert page.count(">1.000</td>") == 8 and not list_faults(tmp_path)

@@ -33,6 +33,7 @@ from ocpp_board.web.signing import (
     set_password,
     write_operator,
 )
+from ocpp_board.writers.pages.context import PageOptions
 from tests.page_check import Check
 from tests.store.scene import AUTHOR, check, message, plan, write_event
 from tests.store.scripts import SITE_DAY, load_script
@@ -47,6 +48,8 @@ PAGES = {
     "/site/riverside/stations": "Stations, site riverside",
     "/site/riverside/findings": "Findings, site riverside",
     "/site/riverside/lacking": "Sessions that lack messages, site riverside",
+    "/site/riverside/silent": "Silent sessions, site riverside",
+    "/site/riverside/site-meter": "Main meter beside the EVSEs, site riverside",
     "/site/riverside/refused": "Refused messages, site riverside",
     "/site/riverside/deeds": "What operators did, site riverside",
     "/site/riverside/closings": "Closings, site riverside",
@@ -57,7 +60,7 @@ PAGES = {
     f"{STATION}/month/2026-03": "Station RV-FAST-01, March 2026",
     f"{STATION}/day/2026-03-02": "Station RV-FAST-01, Mon 2026-03-02",
     f"{STATION}/session/{SESSION}": f"Session {SESSION}",
-    "/operate": "Void, restore or erase an event",
+    "/operate": "Correct, void, restore or erase an event",
 }
 
 
@@ -289,9 +292,49 @@ def test_a_deed_beside_a_conflict(web: Web) -> None:
     assert preview(web.store, Words("void", "RV-FAST-01", "none", "4", "a test")) is None
 
 
+def test_a_correction(web: Web) -> None:
+    """A correction asks why, shows what will change, is done once, and stays with who and why; the session stays
+    complete. Who has not the role, or not the site, corrects nothing."""
+    browser = web.sign_in()
+    asked = "select up, complete, lines from session where transaction_id = :tx"
+    (before,) = web.store.fetch(asked, tx=SESSION)
+    form = {"word": "correct", "station": "RV-FAST-01", "transaction": SESSION, "number": "3"}
+    form |= {"why": "read at the meter", "register": "import", "place": "0", "kwh": "1000"}
+    status, page = browser.ask("/operate", form)
+    assert status == 200 and "reading 0 of the import register to 1000 kWh" in page
+    fields = re.findall(r'type="hidden" name="(\w+)" value="([^"]*)"', page.partition("<h1>")[2])
+    cells = re.findall(r"<th scope=\"row\">([^<]*)</th><td>([^<]*)</td><td>([^<]*)</td>", page)
+    changes = {name: (had, has) for name, had, has in cells}
+    assert web.store.fetch(asked, tx=SESSION) == [before]
+    write_operator(web.store, "mia", "operator", ["north"], AUTHOR)
+    set_password(web.store, "mia", PASSWORD, AUTHOR)
+    reader, other = web.sign_in("ann"), web.sign_in("mia")
+    assert reader.ask("/operate", form)[0] == 403
+    # Nothing says to the other one whether there is such an event.
+    assert [other.ask("/operate", form | {"number": one})[0] for one in ("3", "99")] == [404, 404]
+    assert browser.ask("/operate/do", dict(fields) | {"kwh": "1001"})[0] == 403
+    assert web.store.fetch(asked, tx=SESSION) == [before]
+    status, page = browser.ask("/operate/do", dict(fields))
+    assert status == 200 and ">accepted<" in page
+    (after,) = web.store.fetch(asked, tx=SESSION)
+    assert changes["Up, kWh"] == (kwh(before.up), kwh(after.up))
+    assert (after.complete, after.lines) == (True, before.lines + 3)
+    # The same form again changes nothing more.
+    assert browser.ask("/operate/do", dict(fields))[0] == 409
+    assert web.store.fetch(asked, tx=SESSION) == [after]
+    rows = web.store.fetch("select word, who, why from deed where transaction_id = :tx", tx=SESSION)
+    wanted = {("void", "jo", "read at the meter"), ("erase", "jo", "read at the meter")}
+    assert wanted <= {tuple(row) for row in rows}
+    assert check(web.store)
+
+
 @pytest.mark.parametrize(
     "change, status",
     [
+        ({"word": "correct", "kwh": "x"}, 400),
+        ({"word": "correct", "kwh": "1", "place": "7"}, 409),
+        ({"word": "correct", "kwh": "1", "number": "99"}, 409),
+        ({"word": "correct", "kwh": "1", "register": "export"}, 409),
         ({"number": "99"}, 409),
         ({"word": "destroy"}, 400),
         ({"why": ""}, 400),
@@ -367,7 +410,7 @@ def test_tokens_of_drivers(web: Web) -> None:
     assert not any(TOKEN in browser.ask(path)[1] for path in paths)
     assert TOKEN not in json.dumps(api.read_json("transactions/t9"))
     assert api.ask("/api/v1/sites/north/sessions.csv?month=2026-03&tokens=plain")[0] == 403
-    web.desk.tokens = "plain"
+    web.desk.pages = PageOptions(tokens="plain")
     assert TOKEN in browser.ask(paths[0])[1]
     assert TOKEN in json.dumps(api.read_json("transactions/t9"))
 

@@ -50,12 +50,14 @@ class Case:
     `truth`: what each session really imported, by station and id; `periods`: what station A took in periods by their
     beginnings, where that is part of the truth; `found`: the findings that have to be there, by session (or station),
     with a part of their details; `fine`: findings that may be there besides; `refused`: how many texts wait for a
-    decision; `remedy`: commands of `ocpp-board` without `--store`, whose statuses are those of `status`, or 0; `after`:
-    what sessions have then, where that is not the truth; `rules`: what the plan has of the site.
+    decision; `remedy`: commands of `ocpp-board` without `--store`, whose statuses are those of `status`, or 0 (behind
+    `sh:` one whose proposed commands are run); `after`: what sessions have then, where that is not the truth; `rules`:
+    what the plan has of the site.
 
     Messages come to the store, then those of `raw`; or `log` is written to {dir}/log as JSON lines, and the commands of
     `setup` take it. `files`: others of that folder, each of a short line or a text. `unplanned`: stations that the plan
-    does not have. `shows`: what commands print in the end, as expressions that have to be found. `is_alarm`: a right
+    does not have. `shows`: what commands print in the end, as expressions that have to be found; `written`: what files
+    of the folder have then. `is_alarm`: a right
     number is called wrong, since nothing could know better; `is_advised`: what is advised names the remedy.
     """
 
@@ -80,6 +82,7 @@ class Case:
     unplanned: tuple[str, ...] = ()
     status: tuple[int, ...] = ()
     shows: tuple[tuple[str, str], ...] = ()
+    written: tuple[tuple[str, str], ...] = ()
     is_alarm: bool = False
     is_advised: bool = True
 

@@ -29,6 +29,46 @@ def usual(count: int, wh: int) -> tuple[str, dict[str, float]]:
 DAYS, DAYS_TRUTH = usual(24, 10_000)
 
 CASES = [
+    Case(
+        "tables and pages say whether energy is measured",
+        1,
+        "one reading in all",
+        "",
+        {"A/T1": 700},
+        log="S T1 0 10:00 1000\nE T1 1 10:30",
+        setup=(
+            "report {dir}/log --out {dir}/out",
+            "close-day --site north --day 2026-03-01",
+            "report {dir}/log --out {dir}/again",
+        ),
+        found={"A/T1": {ONE: ""}},
+        remedy=("adjust estimate A T1 --register 1.7 --why 'read at the meter'",),
+        written=(
+            ("out/north/transactions.csv", ",messages complete,.*,no$"),
+            ("out/north/A/session-t1.html", "<p>Messages complete\\."),
+            ("out/north/A/session-t1.html", "<dt>Energy measured</dt><dd>no</dd>"),
+            ("out/north/A/index.html", "messages complete<br>energy measured: no<br>"),
+            ("out/north/index.html", "energy measured: no"),
+            ("out/north/A/2026-03-01.html", "energy measured: no"),
+            ("again/north/closing-1.html", "messages complete</td>.*>no</td>"),
+        ),
+    ),
+    Case(
+        "pages of sessions that lack messages say whether energy is measured",
+        1,
+        "no end came",
+        "S T1 0 10:00 1000\nU T1 1 10:15 1400",
+        {"A/T1": 400},
+        log="U T1 1 10:15 1400",
+        setup=("report {dir}/log --out {dir}/out",),
+        written=(
+            ("out/north/lacking.html", "from its first reading on"),
+            (
+                "out/north/silent.html",
+                "<time>2026-03-01 10:15:01</time>.*from .*10:00</time> to .*10:15</time> only",
+            ),
+        ),
+    ),
     # 1: what no reading says.
     Case(
         "one reading in all, at the start",
@@ -496,6 +536,12 @@ CASES = [
         {"A/T1": 12_000},
         found={"A/T1": {"energy that does not count": "12.000 kWh by intervals"}},
         remedy=("adjust credit A T1 --kwh 12 --why 'by intervals'",),
+        shows=(
+            (
+                "estimates --site north",
+                "A,t1,2026-03-01T10:15:00Z,3.000000,estimated by meter values",
+            ),
+        ),
     ),
     Case(
         "periods by MeterValues",
@@ -511,6 +557,95 @@ CASES = [
                 "estimates --site north",
                 "A,t1,2026-03-01T10:15:00Z,3.000000,estimated by meter values",
             ),
+        ),
+    ),
+    Case(
+        "tables and pages say what MeterValues gave",
+        4,
+        "the same by a log",
+        "",
+        {"A/T1": 12_000},
+        log="S T1 0 10:00\nM 10:00 1000\nM 10:15 2000\nM 10:30 5000\nM 10:45 9000\nE T1 1 11:00\nM 11:00 13000",
+        setup=("report {dir}/log --out {dir}/out",),
+        found={"A/T1": {"no counted reading": ""}},
+        remedy=("adjust estimate A T1 --register meter-values --why 'by MeterValues'",),
+        written=(
+            ("out/north/periods.csv", "^EVSE,.*10:15.*,estimated by meter values,3.000000,"),
+            ("out/north/periods.csv", "^site,.*10:15.*,estimated by meter values,3.000000,"),
+            ("out/north/2026-03-01.html", "estimated by meter values: 3.000 kWh"),
+            ("out/north/A/2026-03-01.html", "estimated by meter values: 4.000 kWh"),
+        ),
+    ),
+    Case(
+        "a period of two sessions, one of them without MeterValues",
+        4,
+        "the second EVSE has none",
+        "",
+        {"A/T1": 12_000, "A/T2": 5_000},
+        log="S T1 0 10:00\nS T2 0 10:00 evse=2\nM 10:00 1000\nE T1 1 11:00\nE T2 1 11:00 evse=2\nM 11:00 13000",
+        setup=("report {dir}/log --out {dir}/out",),
+        found={"A/T1": {"no counted reading": ""}, "A/T2": {"no counted reading": ""}},
+        remedy=(
+            "adjust estimate A T1 --register meter-values --why 'by MeterValues'",
+            "adjust credit A T2 --kwh 5 --why 'by the car'",
+        ),
+        written=(
+            (
+                "out/north/periods.csv",
+                "^EVSE,north,A,1,.*10:15.*,estimated by meter values,3.000000,",
+            ),
+            ("out/north/periods.csv", "^station,north,A,.*10:15.*,estimated,3.000000,"),
+        ),
+    ),
+    Case(
+        "MeterValues around a session's own readings",
+        4,
+        "1, 3, 4 and 4 kWh, of which its readings say the second",
+        "M 10:00 1000\nS T1 0 10:00\nU T1 1 10:15 2000\nU T1 2 10:30 5000\nE T1 3 11:00\nM 11:00 13000",
+        {"A/T1": 12_000},
+        periods={"10:00": 1000, "10:15": 3000, "10:30": 4000, "10:45": 4000},
+        found={"A/T1": {"no reading at the start": "15 min", "no reading at the end": "30 min"}},
+        remedy=("adjust estimate A T1 --register meter-values --why 'by MeterValues'",),
+        shows=(
+            ("estimates --site north", "10:00:00Z,1.000000,.*\n(?!.*10:15).*10:30:00Z,4.000000,"),
+        ),
+    ),
+    Case(
+        "a session's own readings are no MeterValues",
+        4,
+        "its start and its end have none, and there is nothing else",
+        "S T1 0 10:00\nU T1 1 10:15 2000\nU T1 2 10:30 5000\nE T1 3 11:00",
+        {"A/T1": 3_000},
+        found={"A/T1": {"no reading at the start": "15 min", "no reading at the end": "30 min"}},
+        shows=(
+            (
+                "estimates --site north",
+                r"\Astation,session_id,period_start,imported_kwh,figure\n\Z",
+            ),
+        ),
+    ),
+    Case(
+        "MeterValues that come after the session",
+        4,
+        "the station sends them an hour later",
+        "S T1 0 10:00\nE T1 1 11:00\nM 10:00 received=12:00 1000\nM 11:00 received=12:00 13000",
+        {"A/T1": 12_000},
+        found={"A/T1": {"no counted reading": ""}},
+        remedy=("adjust estimate A T1 --register meter-values --why 'by MeterValues'",),
+        shows=(("estimates --site north", "10:45:00Z,3.000000,estimated by meter values"),),
+    ),
+    Case(
+        "the main meter is on a page and in a table",
+        4,
+        "12 kWh at the EVSE, 13 at the main meter",
+        "",
+        {"A/T1": 12_000},
+        log="M 10:00 evse=0 100000\nS T1 0 10:00 1000\nM 10:30 evse=0 106500\nM 11:00 evse=0 113000\n"
+        "E T1 1 11:00 13000",
+        setup=("report {dir}/log --out {dir}/out",),
+        written=(
+            ("out/north/site_meter.csv", "^2026-03-01T10:15:00Z,3.250000,3.000000,0.250000"),
+            ("out/north/site-meter.html", "10:15.*>3.250</td>.*>3.000</td>.*>0.250</td>"),
         ),
     ),
     Case(

@@ -98,6 +98,7 @@ def plan(store: Database, case: Case, sent: list[Sent]) -> None:
             write_station(store, station, SITE, AUTHOR)
         quota = {name: case.rules.get(name, 0) for name in ("most_open", "most_bytes")}
         store.execute("update site set most_open = :most_open, most_bytes = :most_bytes", **quota)
+        store.execute("update site set mends = :mends", mends=case.rules.get("mends", ""))
 
 
 def find_name(station: str, transaction: str, case: Case) -> str:
@@ -147,6 +148,16 @@ def run(store_name: str, line: str) -> tuple[int, str]:
             status = int(ended.code or 0)
     said.seek(0)
     return int(status), said.read()
+
+
+def run_proposed(store_name: str, line: str) -> tuple[int, str]:
+    """Runs the commands that a command proposes."""
+    status, said = run(store_name, line)
+    proposed = [one.strip() for one in said.splitlines() if one.startswith("  ocpp-board ")]
+    for one in proposed:
+        done, more = run(store_name, re.sub(r"^ocpp-board | --store \S+", "", one))
+        status, said = max(status, done), said + more
+    return (status, said) if proposed else (-1, f"nothing is proposed: {said}")
 
 
 def compare_sessions(case: Case, seen: Seen) -> list[tuple[Verdict, str]]:
@@ -220,7 +231,8 @@ def judge(case: Case, store_name: str, folder: Path) -> Judged:
         before = look(store, case)
     wrong += compare_sessions(case, before) + compare_periods(case, before)
     for line, wanted in zip(case.remedy, case.status or [0] * len(case.remedy)):
-        status, said = run(store_name, line.format(dir=folder))
+        own = line.removeprefix("sh: ").format(dir=folder)
+        status, said = (run if own == line.format(dir=folder) else run_proposed)(store_name, own)
         if status != wanted:
             wrong.append((Verdict.ADVICE, f"`{line}` ended with {status}: {said.strip()}"))
     with open_store(store_name) as store:
@@ -230,6 +242,10 @@ def judge(case: Case, store_name: str, folder: Path) -> Judged:
         _, said = run(store_name, line.format(dir=folder))
         if not re.search(shown, said, re.MULTILINE):
             wrong.append((Verdict.SILENT, f"`{line}` does not show {shown!r}:\n{said}"))
+    for name, shown in case.written:
+        text = (folder / name).read_text("utf-8") if (folder / name).exists() else ""
+        if not re.search(shown, text, re.MULTILINE):
+            wrong.append((Verdict.SILENT, f"{name} does not have {shown!r}:\n{text[:3_000]}"))
     order = list(Verdict)
     wrong.sort(key=lambda one: order.index(one[0]))
     verdict = wrong[0][0] if wrong else Verdict.RIGHT
@@ -259,5 +275,5 @@ def compare_after(case: Case, before: Seen, after: Seen) -> list[tuple[Verdict, 
 
 def name_command(line: str) -> str:
     """The command of a line, as advice names it."""
-    words = line.split()
+    words = line.removeprefix("sh: ").split()
     return " ".join(words[:2]) if words[0] in ("adjust", "operate", "plan") else words[0]

@@ -111,21 +111,59 @@ CASES = [
         RESET,
         {"A/T1": 5000 + 4995},
         found={"A/T1": {"register reset or exchanged": "10.000 kWh"}},
-        remedy=(
-            "adjust credit A T1 --kwh 10 --why 'the proposed one'",
-            "release A T1 --why 'by the proposal'",
+        remedy=("sh: adjust propose --site north", "release A T1 --why 'by the proposal'"),
+        shows=(
+            ("bills --site north --month 2026-03", "exchange 10 kWh by .*: meter reset"),
+            ("adjust propose --site north", r"\A\Z"),
         ),
     ),
     Case(
-        "a reset is proposed with its rises",
+        "a reset beside a smaller fall is proposed without it",
         8,
-        "the same",
-        RESET,
-        {"A/T1": 9995},
-        found={"A/T1": {"register reset or exchanged": ""}},
-        remedy=("adjust credit A T1 --kwh 10 --why 'the proposed one'",),
-        setup=(),
-        shows=(("bills --site north --month 2026-03", "credit 10 kWh by"),),
+        "a reading of the old meter is 40 Wh too little, and it was read again later",
+        RESET.replace(
+            "U T1 1 10:15 10000", "U T1 1 10:10 9040\nU T1 2 10:15 9000\nU T1 3 10:20 10000"
+        )
+        .replace("U T1 2 10:30", "U T1 4 10:30")
+        .replace("E T1 3 10:45", "E T1 5 10:45"),
+        {"A/T1": 5000 + 4995},
+        found={
+            "A/T1": {
+                "register reset or exchanged": "10.000 kWh lost",
+                "register falls": "0.040 kWh",
+            }
+        },
+        remedy=("sh: adjust propose --site north", "release A T1 --why 'by the proposal'"),
+    ),
+    Case(
+        "several resets are proposed each",
+        8,
+        "the meter began anew twice: at 10 kWh, and at 4",
+        "S T1 0 10:00 5000\nU T1 1 10:15 10000\nU T1 2 10:30 0\nU T1 3 10:45 4000\nU T1 4 11:00 0\nE T1 5 11:15 3000",
+        {"A/T1": 5000 + 4000 + 3000},
+        found={"A/T1": {"register reset or exchanged": "14.000 kWh lost"}},
+        remedy=("sh: adjust propose --site north", "release A T1 --why 'by the proposal'"),
+        shows=(("adjust propose --site north", r"\A\Z"),),
+    ),
+    Case(
+        "a reset after which the register passes the old one",
+        8,
+        "5.9 kWh, then 0.1, and 30 kWh in the end",
+        "S T1 0 10:00 5000\nU T1 1 10:15 5900\nU T1 2 10:20 100\nU T1 3 10:40 4000\nU T1 4 10:45 5500\n"
+        "U T1 5 11:00 12000\nE T1 6 12:00 30000",
+        {"A/T1": 900 + 29_900},
+        found={"A/T1": {"register reset or exchanged": "5.800 kWh lost"}},
+        remedy=("sh: adjust propose --site north", "release A T1 --why 'by the proposal'"),
+    ),
+    Case(
+        "a reading of 0 in the middle is no reset",
+        8,
+        "the meter answered nothing once",
+        "S T1 0 10:00 5000\nU T1 1 10:15 10000\nU T1 2 10:30 0\nU T1 3 10:45 12000\nE T1 4 11:00 13000",
+        {"A/T1": 8000},
+        found={"A/T1": {"register falls": "10.000 kWh"}},
+        remedy=("operate void A T1 2 --why 'no answer of the meter'",),
+        shows=(("adjust propose --site north", r"\A\Z"),),
     ),
     Case(
         "a register rolls over",

@@ -51,6 +51,7 @@ CASES = [
         log=log("ocpp2.0.1") + log("ocpp1.6", "OLD"),
         setup=(NAMED,),
         shows=(("take", "^site,station"), ("left-out", "^north,OLD,ocpp1.6,2026-03-01T10:00:01Z")),
+        written=(("out/north/index.html", r"Left out, .*: OLD \(ocpp1\.6\)\."),),
     ),
     Case(
         "frames of OCPP 2.1 without an answer are no refusals",

@@ -5,12 +5,10 @@ import json
 from collections.abc import Sequence
 from datetime import timedelta
 from decimal import Decimal
-from pathlib import Path
 from typing import Any
 
 import pytest
 
-import ocpp_board
 from ocpp_board.ledger.answers import AnswerReader
 from ocpp_board.ledger.course import Course
 from ocpp_board.ledger.events import read_conflict
@@ -18,6 +16,7 @@ from ocpp_board.ledger.findings import MOST_KW, Finding, Kind
 from ocpp_board.ledger.rows import find_ends
 from ocpp_board.messages.transactions import mwh_of
 from ocpp_board.records import Line, Rules
+from ocpp_board.store.database import open_store
 from tests.reference import Site, Station, event_of
 from tests.traffic.troubles import FIRST, KINDS, Sent, Session as Messages, event, reading, sound
 
@@ -337,8 +336,6 @@ def test_readings_are_whole_mwh_rounded_down(value: str, unit: dict[str, Any], m
 
 
 def test_the_kinds_that_hold_a_bill_are_those_of_the_view() -> None:
-    text = (Path(ocpp_board.__file__).parent / "store" / "days_views.sql").read_text("utf-8")
-    listed = text.partition("f.kind in (")[2].partition(")")[0]
-    assert {word.strip().strip("'") for word in listed.replace("\n", " ").split(",")} == {
-        kind.label for kind in Kind if kind.holds
-    }
+    with open_store(":memory:") as store:
+        rows = store.fetch("select kind from hold_kind")
+    assert {row.kind for row in rows} == {kind.label for kind in Kind if kind.holds}

@@ -4,9 +4,9 @@ from pathlib import Path
 
 import pytest
 
-from tests.traffic import repeats
 from tests.reference import replayed
 from tests.rows.rows import scripts_of
+from tests.traffic import repeats
 
 TOP = Path(__file__).parents[2]
 # Rows with sound messages, except for those of scripts that report one that is not.

@@ -10,7 +10,7 @@ use Rattle.journal_script.{specs.Cuts.{BeginsNext, CutsAreScripts, HasWhole, IsM
 -- ---- where a text is cut
 
 -- two equal texts; the first is no longer than the second
-front_of : (a b x y : List ℕ) → a ++ b ≡ x ++ y → length a ≤ length x → (more : List ℕ) × (x ≡ a ++ more) × (b ≡ more ++ y)
+pub front_of : (a b x y : List ℕ) → a ++ b ≡ x ++ y → length a ≤ length x → (more : List ℕ) × (x ≡ a ++ more) × (b ≡ more ++ y)
 front_of [] b x y e short = (x, refl, e)
 front_of (c ∷ a) b [] y e short = absurd (omega arith)
 front_of (c ∷ a) b (d ∷ x) y e short =
@@ -53,7 +53,7 @@ record Parted (part : List ℕ) : Type 0 where
   is : part ≡ first ++ rest
 
 -- a part that stays before the line feed of a line has none
-open_part : (line part more : List ℕ) → HasNoFeed line → line_text line ≡ part ++ more → length part ≤ length line → HasNoFeed part
+pub open_part : (line part more : List ℕ) → HasNoFeed line → line_text line ≡ part ++ more → length part ≤ length line → HasNoFeed part
 open_part line part more feedless is short =
     let same : take (length part) line ≡ part =
     sym (take-append-le (length part) line (10 ∷ []) short) ∙ ap (take (length part)) is ∙ take-append_seam part more in
@@ -93,7 +93,7 @@ parted stations part (e ∷ log) all next =
       | inr past ↦ parted_line e.note e.line part next.0 spoken.noted spoken.speaks.feedless next.1 next.2 past
     ]
 
-All-drop : (stations : List StationPlan) (k : ℕ) (log : List Entry) → All (IsSpoken stations) log → All (IsSpoken stations) (drop k log)
+pub All-drop : (stations : List StationPlan) (k : ℕ) (log : List Entry) → All (IsSpoken stations) log → All (IsSpoken stations) (drop k log)
 All-drop stations zero log all = all
 All-drop stations (suc k) [] all = all
 All-drop stations (suc k) (e ∷ log) all = All-drop stations k log (All-tail (IsSpoken stations) e log all)
@@ -101,21 +101,21 @@ All-drop stations (suc k) (e ∷ log) all = All-drop stations k log (All-tail (I
 -- ---- the mark
 
 -- a mark is `#`, bytes without a line feed that end with a byte which ends no command, and a line feed
-record Marks (mark : List ℕ) : Type 0 where
-  back : List ℕ
-  feedless : HasNoFeed back
-  ends : (last 35 back ≡ 35) ⊎ (last 35 back ≡ 115)
-  is : mark ≡ 35 ∷ (back ++ 10 ∷ [])
+pub record Marks (mark : List ℕ) : Type 0 where
+  pub back : List ℕ
+  pub feedless : HasNoFeed back
+  pub ends : (last 35 back ≡ 35) ⊎ (last 35 back ≡ 115)
+  pub is : mark ≡ 35 ∷ (back ++ 10 ∷ [])
 
 no_feed : (bytes : List ℕ) → list_all (λ b. not (b == 10)) bytes ≡ true → HasNoFeed bytes
 no_feed bytes h = λ k d less e. false≢true (sym (ap not (eq-eqb (get_or bytes k d) 10 e)) ∙ AllPass-from_list_all (λ b. not (b == 10)) bytes h k d less)
 
-marks : (mark : List ℕ) → IsMark mark → Marks mark
+pub marks : (mark : List ℕ) → IsMark mark → Marks mark
 marks mark (inl e) = record { back = []; feedless = no_feed [] refl; ends = inl refl; is = e }
 marks mark (inr e) = record { back = drop 1 run_line; feedless = no_feed (drop 1 run_line) refl; ends = inr refl; is = e }
 
 -- the part of a line and a mark behind it are one line
-one_line : (part mark : List ℕ) (m : Marks mark) → HasNoFeed part → lines_of longest_line (part ++ mark) ≡ ended longest_line (part ++ 35 ∷ m.back) ∷ []
+pub one_line : (part mark : List ℕ) (m : Marks mark) → HasNoFeed part → lines_of longest_line (part ++ mark) ≡ ended longest_line (part ++ 35 ∷ m.back) ∷ []
 one_line part mark m feedless =
     let raw = part ++ 35 ∷ m.back in
     let whole : part ++ mark ≡ (raw ++ 10 ∷ []) ++ [] = ap (λ l. part ++ l) m.is ∙ sym (append_assoc part (35 ∷ m.back) (10 ∷ [])) ∙ sym (append-nil (raw ++ 10 ∷ [])) in

@@ -30,7 +30,7 @@ steps_both s (m ∷ xs) ys = steps_both (step_by s m).0 xs ys
 abbrev pub begins : List ℕ → SitePlan
 begins name = record { name = name; viewers = 0; period = default_periods; order = Sequence }
 
-are_bounds : (b : Bounds) → AreBounds b.transactions b.events b.readings b.changes → are_limits b.transactions b.events b.readings b.changes ≡ true
+pub are_bounds : (b : Bounds) → AreBounds b.transactions b.events b.readings b.changes → are_limits b.transactions b.events b.readings b.changes ≡ true
 are_bounds b are =
     λ i. (le-leb 1 b.transactions are.some_transactions i && le-leb b.transactions most_transactions are.most_transactions i)
     && ((le-leb 1 b.events are.some_events i && le-leb b.events most_events are.most_events i)

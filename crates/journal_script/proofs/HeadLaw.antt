@@ -1,5 +1,5 @@
 -- A head, read as a script, leaves the plan that it declares.
-use Rattle.std.{proofs.Common.{slice_get, zero, suc, ◌≡◌, ℕ, ◌<◌, ◌≤◌, Bool, true, false, not, cond, List, [], ◌∷◌, ◌++◌, All, None, Some, bytes_eq, codes, get_or, length, map, refl, sym, ap, subst, ◌∙◌, inl, arith, append_assoc, length-append}, specs.Prelude.{Option, sum_by}, specs.List.position, proofs.lemmas.Bool.{and_parts, leb-true}, proofs.lemmas.List.Elements.{All-cons, All-head, All-nil, All-tail}, proofs.lemmas.Option.get_or_from_slice_get}
+use Rattle.std.{proofs.Common.{slice_get, zero, suc, ◌≡◌, ℕ, ◌<◌, ◌≤◌, Bool, true, false, not, cond, List, [], ◌∷◌, ◌++◌, All, None, Some, bytes_eq, codes, get_or, length, map, refl, sym, ap, subst, ◌∙◌, inl, arith, append_assoc, length-append}, specs.Prelude.{Option, sum_by}, specs.List.position, proofs.lemmas.Bool.{and_parts, leb-true}, proofs.lemmas.List.Elements.{All-append, All-cons, All-head, All-nil, All-tail}, proofs.lemmas.Option.get_or_from_slice_get}
 use Rattle.board_report.proofs.SiteBoards.{some_same, stands}
 use Rattle.ledger_model.{specs.Content.empty_content, specs.Limits.default_limits, specs.Moment.first_moment, specs.Periods.Periods, specs.Ranges.{most_plan_readings, most_sites, most_stations}, specs.declared.order.Order.Order, specs.declared.order.Order.TheVariants.{Sequence, Moment}, specs.declared.settle.Settle.Settle, specs.declared.settle.Settle.TheVariants.{Later, Closing, Even}}
 use Rattle.script_ledgers.{proofs.Boards.at_site, proofs.SettledBy.{order_known, ordered_kept, period_known, settled_kept, settled_known}, specs.Drafts.{Drafted, IsPlan, planned, planned_world, site_name}, specs.Running.filled, specs.Script.{Script, is_period, lasting, new_station, settling, start, step_by}}
@@ -167,6 +167,8 @@ head_is sites stations a b head none ordered few_sites few of_stations of_sites 
     ∙ ap (λ l. planned (record d { sites = map unviewed sites; stations = l })) joined.stations_are in
     let names = same_of (λ (s : SitePlan). s.name) (λ s. refl) sites in
     record {
+      says = whole.lines (inl refl);
+      values = All-append HasValues own more of_stations.values of_sites.values;
       whole = whole.whole (inl refl);
       sites_are = ap (λ (s : Script). s.sites) left ∙ names;
       periods_are = ap (λ (s : Script). s.periods) left ∙ same_of (λ (s : SitePlan). s.period) (λ s. refl) sites;

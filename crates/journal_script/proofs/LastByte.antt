@@ -20,7 +20,7 @@ at_end front c =
     let at : length (front ++ c ∷ []) - 1 ≡ length front = omega (arith, length-append front (c ∷ [])) in
     ap (λ k. get_or (front ++ c ∷ []) k 0) at ∙ get_or-append_seam front c [] 0
 
-ends_so : (c x : ℕ) (xs : List ℕ) → ends_with_byte c (x ∷ xs) ≡ (last x xs == c)
+pub ends_so : (c x : ℕ) (xs : List ℕ) → ends_with_byte c (x ∷ xs) ≡ (last x xs == c)
 ends_so c x xs =
     let end = last_apart x xs in
     let some : ltb 0 (length (x ∷ xs)) ≡ true = grind (arith, nat_tests) in

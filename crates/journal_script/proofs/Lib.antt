@@ -1,9 +1,9 @@
 pub mod Growing
 pub mod Steps
 pub mod Whole
-mod Notes
+pub mod Notes
 mod Feeds
-mod LastByte
+pub mod LastByte
 pub mod LinesRead
 pub mod UpToListen
 pub mod Contents

@@ -26,7 +26,7 @@ hash_first (x ∷ xs) = at (ends_with_byte 13 (35 ∷ x ∷ xs))
     at false = (x ∷ xs, refl)
 
 -- a comment says nothing
-comment_says : (said : List ℕ) → length (35 ∷ said) ≤ longest_line → line_meaning (ended longest_line (35 ∷ said)) ≡ nothing
+pub comment_says : (said : List ℕ) → length (35 ∷ said) ≤ longest_line → line_meaning (ended longest_line (35 ∷ said)) ≡ nothing
 comment_says said short =
     let fits : leb (length (35 ∷ said)) longest_line ≡ true = grind (arith, nat_tests, short) in
     ap (λ b. line_meaning (cond b (Some (strip_last 13 (35 ∷ said))) None)) fits ∙ ap (λ l. line_meaning (Some l)) (hash_first said).1

@@ -88,7 +88,7 @@ takes_step s (lists _ _ _) name command station says found = absurd says
 takes_step s (asks_meaning _) name command station says found = absurd says
 takes_step s (marks _) name command station says found = absurd says
 
-takes_line : (s : Script) (name line : List ℕ) (command : Command) → Speaks name line command → Has s.world name → Takes s (line_step s (Some line)).0 name command
+pub takes_line : (s : Script) (name line : List ℕ) (command : Command) → Speaks name line command → Has s.world name → Takes s (line_step s (Some line)).0 name command
 takes_line s name line command speaks has =
     subst (λ n. Takes s (line_step s (Some line)).0 n command) (sym (named s.world name has.0 has.1))
     (takes_step s (line_meaning (Some line)) name command has.0 speaks.says has.1)
@@ -96,7 +96,7 @@ takes_line s name line command speaks has =
 -- ---- all lines
 
 -- the line of an entry, as it is cut
-cut_entry : (name line : List ℕ) (command : Command) → Speaks name line command → ended longest_line line ≡ Some line
+pub cut_entry : (name line : List ℕ) (command : Command) → Speaks name line command → ended longest_line line ≡ Some line
 cut_entry name line command speaks =
     let short : leb (length line) longest_line ≡ true = grind (arith, nat_tests, speaks.short) in
     ap (λ b. cond b (Some (strip_last 13 line)) None) short ∙ ap Some speaks.bare

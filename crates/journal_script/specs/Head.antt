@@ -3,20 +3,12 @@ use Rattle.std.specs.Prelude.{◌≡◌, ℕ, suc, Bool, true, ◌==◌, ◌&&�
 use Rattle.journal_script.specs.Journals.{EndsWhole}
 use Rattle.ledger_model.{specs.declared.order.Order.Order, specs.declared.order.Order.TheVariants.{Sequence, Moment}, specs.declared.settle.Settle.Settle, specs.declared.settle.Settle.TheVariants.{Later, Closing, Even}, specs.Limits.{AreBounds, Bounds}}
 use Rattle.script_ledgers.{specs.Drafts.{planned_world, site_name}, specs.Script.{Script, is_period, script_after, start}}
-use Rattle.script_lines.{specs.LineMeaning.{LineMeaning, sets_limits, declares, sets_period, sets_order, sets_settle, line_meaning}, specs.Lines.lines_of, specs.Ranges.longest_line}
+use Rattle.script_lines.{specs.LineMeaning.{LineMeaning, nothing, sets_limits, declares, sets_period, sets_order, sets_settle, line_meaning}, specs.Lines.lines_of, specs.Ranges.longest_line}
 use Rattle.site_desk.{specs.declared.plan.SitePlan.SitePlan, specs.declared.plan.StationPlan.StationPlan}
 
 -- The state of a replay after these bytes.
 abbrev pub after : List ℕ → Script
 after bytes = script_after start (lines_of longest_line bytes)
-
--- The text of a head, read as a script in whole lines, leaves these sites and stations, without events.
-pub record IsHeadOf (sites : List SitePlan) (stations : List StationPlan) (head : List ℕ) : Type 0 where
-  pub whole : EndsWhole head
-  pub sites_are : (after head).sites ≡ map (λ s. s.name) sites
-  pub periods_are : (after head).periods ≡ map (λ s. s.period) sites
-  pub orders_are : (after head).orders ≡ map (λ s. s.order) sites
-  pub world_is : (after head).world ≡ planned_world sites stations
 
 -- These stations mention all sites from the first number on, up to this many, each for the first time in the order of
 -- the numbers. The sites below the first number were mentioned before.
@@ -66,6 +58,17 @@ abbrev pub HasValues : LineMeaning → Type 0
 HasValues (sets_limits transactions events readings changes) = AreBounds transactions events readings changes
 HasValues (sets_period site seconds) = is_period seconds ≡ true
 HasValues _ = Unit {0}
+
+-- The text of a head, read as a script in whole lines, leaves these sites and stations, without events. Its
+-- lines are those of stations and then those of sites, between two comments.
+pub record IsHeadOf (sites : List SitePlan) (stations : List StationPlan) (head : List ℕ) : Type 0 where
+  pub whole : EndsWhole head
+  pub sites_are : (after head).sites ≡ map (λ s. s.name) sites
+  pub periods_are : (after head).periods ≡ map (λ s. s.period) sites
+  pub orders_are : (after head).orders ≡ map (λ s. s.order) sites
+  pub world_is : (after head).world ≡ planned_world sites stations
+  pub says : meanings_of head ≡ nothing ∷ ((stations_meanings sites stations ++ sites_meanings sites) ++ nothing ∷ [])
+  pub values : All HasValues (stations_meanings sites stations ++ sites_meanings sites)
 
 -- Behind whole lines, the new bytes have further whole lines, which say this.
 pub record Adds (old new : List ℕ) (says : List LineMeaning) : Type 0 where

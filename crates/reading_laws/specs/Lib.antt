@@ -1,3 +1,4 @@
 pub mod Repeats
 pub mod RepeatExamples
 pub mod Stretches
+pub mod EvenShares

@@ -7,15 +7,18 @@
     ocpp-board adjust --store ledger.db propose --site north
 
 The ledger's number stays. Bills and settlement files have it, the adjustments, each with who and why, and their sum. An
-adjustment is never removed: declare one of the opposite amount. `propose` lists sessions whose register was reset, with
-the line that would adjust each if the meter was exchanged between the two readings.
+adjustment is never removed: declare one of the opposite amount. `propose` lists each reset of a register within a
+session, with the line that adjusts it, so that the session has the rises before and after: put in what the two meters
+read, if you know it.
 """
 
 import argparse
 
 from ocpp_board.commands.options import add_author, add_store, read_author, read_mwh, read_time
-from ocpp_board.energies import kwh
+from ocpp_board.energies import kwh, kwh_of
 from ocpp_board.errors import UsageError
+from ocpp_board.ledger.program import find_program
+from ocpp_board.ledger.resets import list_resets
 from ocpp_board.statuses import Status
 from ocpp_board.store.database import Database, open_store
 from ocpp_board.store.decisions import (
@@ -25,9 +28,8 @@ from ocpp_board.store.decisions import (
     declare_credit,
     declare_estimate,
     declare_exchange,
-    propose_exchanges,
 )
-from ocpp_board.writers.bills import find_zone, write_signed_kwh
+from ocpp_board.writers.bills import find_zone, write_moment, write_signed_kwh
 
 
 def add_words(parser: argparse.ArgumentParser) -> None:
@@ -80,13 +82,24 @@ def declare(store: Database, words: argparse.Namespace) -> Adjustment:
 
 
 def propose(store: Database, words: argparse.Namespace) -> None:
-    """Prints the sessions whose register was reset, and how to adjust them."""
+    """Prints each reset of a register within a session, and how to adjust it."""
     find_zone(store, words.site)
-    for row in propose_exchanges(store, words.site):
-        print(f"{row.transaction_id} of {row.station}, EVSE {row.evse}: {row.detail}")
+    front = f"  ocpp-board adjust --store {words.store}"
+    for one in list_resets(store, find_program(), words.site):
+        side = "export register" if one.is_export else "register"
         print(
-            f"  ocpp-board adjust --store {words.store} credit {row.station} {row.transaction_id} "
-            f"--kwh {write_signed_kwh(row.down)} --why 'meter exchanged'"
+            f"{one.transaction} of {one.station}, EVSE {one.evse}: the {side} fell from {kwh(one.old_end)} to "
+            f"{kwh(one.new_begin)} kWh"
+        )
+        if one.is_export:
+            lost = write_signed_kwh(one.old_end - one.new_begin)
+            print(
+                f"{front} credit {one.station} {one.transaction} --kwh 0 --exported-kwh {lost} --why 'meter reset'"
+            )
+            continue
+        registers = f"--old-end {kwh_of(one.old_end)} --new-begin {kwh_of(one.new_begin)}"
+        print(
+            f"{front} exchange {one.station} {one.evse} --at {write_moment(one.at)} {registers} --why 'meter reset'"
         )
 
 

@@ -3,8 +3,9 @@
     ocpp-board corrections --store ledger.db --site north --since 2026-03-01 > corrections.csv
 
 A row is a settlement period of a session: by how much it changed, by which closing, and the lines of the session that
-made it, each with its sequence in the session, when it came, and for an operator's line who and why. `--since` is a day
-of the site's zone; closings of that day and later ones count.
+made it, each with its sequence in the session, when it came, and for an operator's line who and why; whether the new
+figure is measured, and how many findings and holds the session has now. `--since` is a day of the site's zone; closings
+of that day and later ones count.
 """
 
 import argparse
@@ -32,6 +33,7 @@ HEADS = (
         "period_start_local",
     ),
     *("imported_kwh", "exported_kwh", "net_kwh", "first_line", "last_line", "lines"),
+    *("figure", "findings", "holds"),
 )
 
 
@@ -75,6 +77,7 @@ def write_row(row: Row, zone: ZoneInfo, lines: str) -> list[str]:
         f"{row.first_line}" if has_lines else "",
         f"{row.last_line}" if has_lines else "",
         csv_cell(lines),
+        *("estimated" if row.estimated > 0 else "measured", f"{row.findings}", f"{row.holds}"),
     ]
 
 

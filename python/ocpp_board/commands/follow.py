@@ -35,10 +35,12 @@ from ocpp_board.commands.loading import BATCH, Loader, Wanted
 from ocpp_board.commands.options import add_log_options, add_store, choose_program
 from ocpp_board.commands.reading import Meter
 from ocpp_board.commands.renewing import Renewer, Shown
-from ocpp_board.commands.report import count_of, open_pool
+from ocpp_board.commands.report import count_of
 from ocpp_board.errors import InputError, StoreError, UsageError
 from ocpp_board.escapes import shown, without_controls
-from ocpp_board.ledger.engine import Pool, settle, take_strays
+from ocpp_board.ledger.engine import settle, take_strays
+from ocpp_board.ledger.mending import count_mended, describe_mended
+from ocpp_board.ledger.settlers import Settlers
 from ocpp_board.limits import GREATEST_SEQ_NO
 from ocpp_board.messages.texts import Refused
 from ocpp_board.records import DEEDS, Answer, Asked, Deed, Message
@@ -64,7 +66,7 @@ Exit status: 0; 1 when no line of a log is of its form; 2 when the words are wro
 used."""
 # Seconds between looks at the logs, between looks at the plan, and before what failed is tried again.
 AGAIN, PLAN, TRIED = 0.3, 2.0, 5.0
-# Records of one look beyond which processes share the work.
+# Records of one look beyond which processes settle them.
 MANY = 5_000
 # What parts an operator's line from who and why, and characters of these that are kept.
 MARK = b" # "
@@ -144,7 +146,7 @@ def choose_options(parser: argparse.ArgumentParser, words: argparse.Namespace) -
         parser.error("--source names one log")
     plan = replace(choose_plan(parser, words), stations=None)
     asked = (
-        Shown(words.out, words.every, words.oldest, TableOptions(words.tokens))
+        Shown(words.out, words.every, words.oldest, TableOptions(words.tokens), words.silent)
         if words.out
         else None
     )
@@ -300,12 +302,14 @@ def write_answer(answer: Answer) -> str:
 class Follow:
     """Follows logs into a store, takes an operator's lines, and renews pages and tables."""
 
-    def __init__(self, options: Options, store: Database, pool: Pool | None) -> None:
+    def __init__(self, options: Options, store: Database) -> None:
         """Raises OSError, UsageError and InputError."""
         self.options, self.store = options, store
         self.plan = StorePlan(options.wanted.plan)
         author = Author("follow", f"followed {', '.join(map(str, options.logs))}"[:200])
-        self.loader = Loader(store, options.wanted, author, pool)
+        self.loader = Loader(store, options.wanted, author)
+        # Processes that settle, while there is much.
+        self.settlers: Settlers | None = None
         self.stations = StationFile(options.stations)
         names = [options.source or os.path.abspath(path) for path in options.logs]
         self.logs = [
@@ -379,16 +383,41 @@ class Follow:
 
         def settle_once() -> None:
             self.loader.plan(self.find_new(records))
-            pool = self.loader.pool if len(records) > MANY else None
-            answers = settle(self.store, records, pool, also=note)
+            if len(records) > MANY and self.options.processes > 1:
+                self.settle_many(records)
+                with self.store.transaction():
+                    note(self.store)
+                return
+            answers = settle(self.store, records, also=note)
             for record, answer in zip(records, answers):
                 self.loader.note(record.station, answer)
+            self.loader.counts += count_mended(answers)
 
         while not self.attempt(settle_once) and not self.is_ending:
             self.wait(TRIED)
+        if len(records) < BATCH:
+            self.drop_settlers()
         moments = [record.received for record in records if record.received]
         self.until = max([*moments, *filter(None, [self.until])], default=None)
         self.meter.show(f"{one.path}: {one.reader.counts['lines']:,} lines")
+
+    def settle_many(self, records: Sequence[Asked]) -> None:
+        """Has processes settle records, each those of its stations. Where something fails before it is noted how far
+        the log was read, they are settled again, which changes nothing. Raises StoreError."""
+        if self.settlers is None:
+            self.settlers = Settlers(self.options.store, self.options.processes)
+        try:
+            self.loader.counts += self.settlers.submit(records).get()
+        except StoreError:
+            self.drop_settlers()
+            raise
+        self.loader.changed |= {(record.station, None) for record in records}
+
+    def drop_settlers(self) -> None:
+        """Ends the processes that settle."""
+        if self.settlers:
+            self.settlers.drop()
+            self.settlers = None
 
     def find_new(self, records: Sequence[Asked]) -> dict[str, str]:
         """The stations of records that come to the site of the words."""
@@ -491,6 +520,8 @@ class Follow:
             if not one.reader.has_form():
                 log.error("no line of %s is of the form %s", one.path, one.shape.name)
                 status = Status.REPORTED
+        if said := describe_mended(self.loader.counts):
+            log.info("messages mended as the plan declares: %s", said)
         if self.renewer:
             pages, tables = self.renewer.pages, self.renewer.tables
             log.info("%s and %s were written", count_of(pages, "page"), count_of(tables, "table"))
@@ -538,8 +569,8 @@ def run(words: argparse.Namespace) -> int:
     """Does what the words ask for, and gives the exit status."""
     options = choose_options(words.parser, words)
     choose_program(words.program)
-    with open_pool(options.processes) as pool, open_store(options.store) as store:
-        follow = Follow(options, store, pool)
+    with open_store(options.store) as store:
+        follow = Follow(options, store)
         threading.Thread(target=read_lines, args=(follow.lines,), daemon=True).start()
         out = f"; pages are in {options.shown.out}" if options.shown else ""
         log.info("follows %s into %s%s", ", ".join(map(str, options.logs)), options.store, out)

@@ -15,7 +15,7 @@ as you like, on any machines, and end them at any time.
 import argparse
 import asyncio
 
-from ocpp_board.commands.options import add_program, add_store, choose_program, read_count
+from ocpp_board.commands.options import add_program, add_silent, add_store, choose_program
 from ocpp_board.words import pick_options
 
 ENDING = """\
@@ -99,13 +99,7 @@ def add_words(parser: argparse.ArgumentParser) -> None:
         type=read_place,
         help="serve figures at /metrics and health at /health, on this port of 127.0.0.1, or ADDRESS:PORT",
     )
-    parser.add_argument(
-        "--silent",
-        type=read_count,
-        default=24,
-        metavar="HOURS",
-        help="hours after which a session that lacks messages counts as silent at /metrics (default: 24)",
-    )
+    add_silent(parser)
     add_tls_words(parser)
 
 

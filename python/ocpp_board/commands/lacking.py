@@ -2,7 +2,7 @@
 
     ocpp-board lacking --store ledger.db --hours 24
 
-A session is listed if it is not complete, nothing came of it for so many hours, and nobody settled it by rule. Columns:
+A session is listed if it lacks messages, nothing came of it for so many hours, and nobody settled it by rule. Columns:
 site, station, transactionId (as the station sent it, for GetTransactionStatus), state, missing, gaps (from..to), since
 (when something of it came last, by receipt where that is known), and kwh (what it imported so far). The status is 1 if
 something is listed.

@@ -5,7 +5,8 @@ from collections.abc import Collection, Iterable, Mapping
 from dataclasses import dataclass, field, replace
 
 from ocpp_board.commands.options import find_by_site
-from ocpp_board.ledger.engine import Pool, change_site, settle, take_strays
+from ocpp_board.ledger.engine import change_site, settle, take_strays
+from ocpp_board.ledger.mending import count_mended
 from ocpp_board.ledger.settlers import Pending, Settlers
 from ocpp_board.records import Answer, Asked, LeftOut, Limits, Rules
 from ocpp_board.sources.script import Declaration
@@ -79,11 +80,10 @@ class Loader:
         store: Database,
         wanted: Wanted,
         author: Author,
-        pool: Pool | None = None,
         settlers: Settlers | None = None,
     ) -> None:
-        """`pool`: processes that share the work of a batch; `settlers`: processes that settle what `submit` gets."""
-        self.store, self.wanted, self.author, self.pool = store, wanted, author, pool
+        """`settlers`: processes that settle what `submit` gets."""
+        self.store, self.wanted, self.author = store, wanted, author
         self.settlers = settlers
         self.under_way = deque[Pending]()
         self.counts = Counter[str]()
@@ -129,14 +129,15 @@ class Loader:
         asked = "select distinct station from stray"
         waiting = {row.station for row in self.store.fetch(asked)} & {*stations}
         for station in sorted(waiting):
-            for answer in take_strays(self.store, station, self.pool):
+            for answer in take_strays(self.store, station):
                 self.note(station, answer)
 
     def settle(self, asked: list[Asked]) -> list[Answer]:
         """Settles records, and gives their answers."""
-        answers = settle(self.store, asked, self.pool)
+        answers = settle(self.store, asked)
         for one, answer in zip(asked, answers):
             self.note(one.station, answer)
+        self.counts += count_mended(answers)
         return answers
 
     def submit(self, asked: list[Asked]) -> None:

@@ -3,23 +3,20 @@
 import argparse
 import getpass
 import os
-import re
 import shutil
 from collections.abc import Mapping
 from datetime import date, datetime, timezone
-from decimal import Decimal
 
+from ocpp_board import energies
 from ocpp_board.errors import UsageError
 from ocpp_board.escapes import shown
 from ocpp_board.ledger.findings import MOST_KW
 from ocpp_board.ledger.program import LIBRARY_NAME, PROGRAM_NAME, find_program
-from ocpp_board.limits import is_name
+from ocpp_board.limits import SILENT_HOURS, is_name
 from ocpp_board.sources import forms
 from ocpp_board.sources.stations import add_rules, add_utc
 from ocpp_board.store.plan import Author
 from ocpp_board.writers.tokens import TOKENS
-
-ENERGY = re.compile(r"-?[0-9]{1,7}(\.[0-9]{1,6})?")
 
 
 def add_store(parser: argparse.ArgumentParser, is_required: bool = True) -> None:
@@ -122,7 +119,19 @@ def add_log_options(parser: argparse.ArgumentParser, fields: tuple[str, ...]) ->
     add_zones(parser)
     add_power(parser)
     add_tokens(parser)
+    add_silent(parser)
     add_program(parser)
+
+
+def add_silent(parser: argparse.ArgumentParser) -> None:
+    """The option that says when a session is silent."""
+    parser.add_argument(
+        "--silent",
+        type=read_count,
+        default=SILENT_HOURS,
+        metavar="HOURS",
+        help="hours without a message after which a session that lacks some is silent (default: 24)",
+    )
 
 
 def find_by_site(asked: Mapping[str, str], site: str) -> str | None:
@@ -193,11 +202,11 @@ def read_time(text: str) -> datetime:
 
 def read_mwh(text: str) -> int:
     """An energy in kWh of the command line, in mWh. Raises ArgumentTypeError."""
-    if not ENERGY.fullmatch(text):
+    if not energies.ENERGY.fullmatch(text):
         raise argparse.ArgumentTypeError(
             f"{text!r} is no energy in kWh with at most six decimals, such as 4711.5"
         )
-    return int(Decimal(text).scaleb(6))
+    return energies.read_mwh(text)
 
 
 def read_count(text: str) -> int:

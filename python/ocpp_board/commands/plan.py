@@ -21,7 +21,6 @@ import argparse
 import csv
 import getpass
 import importlib
-import importlib.util
 import sys
 from collections.abc import Callable, Mapping
 from dataclasses import replace
@@ -45,7 +44,7 @@ NUMBERS = ("period", "events", "readings", "most_kw", "reading_within", "resolut
 RULES = ("period", "order", "settle", "zone", *NUMBERS[1:])
 OWN_KW = "station_kw"
 # Modules with further words, each with `add_plan_words(subparsers)`.
-MORE = ("ocpp_board.commands.plan_passwords", "ocpp_board.commands.plan_operators")
+MORE = ("ocpp_board.commands.plan_passwords", "ocpp_board.commands.plan_mends")
 
 
 def add_words(parser: argparse.ArgumentParser) -> None:
@@ -85,8 +84,7 @@ def add_words(parser: argparse.ArgumentParser) -> None:
     table = add_word(group, "csv", "adds and changes what a CSV file lists", write_table)
     table.add_argument("file", type=Path, metavar="FILE")
     for name in MORE:
-        if importlib.util.find_spec(name) is not None:
-            importlib.import_module(name).add_plan_words(group)
+        importlib.import_module(name).add_plan_words(group)
 
 
 def add_word(

@@ -12,6 +12,7 @@ import string
 import sys
 from typing import Any
 
+from ocpp_board.commands.plan import add_word
 from ocpp_board.errors import UsageError
 from ocpp_board.passwords import LONGEST, SHORTEST, find_mistake
 from ocpp_board.statuses import Status
@@ -33,10 +34,9 @@ MADE, LETTERS = 24, string.ascii_letters + string.digits
 
 
 def add_plan_words(group: Any) -> None:
-    """The word of `plan`."""
-    parser: argparse.ArgumentParser = group.add_parser(
-        "password", help="sets the password of a station", description=ABOUT
-    )
+    """The words of `plan`."""
+    parser = add_word(group, "password", "sets the password of a station", change_password)
+    parser.description = ABOUT
     parser.add_argument("station", metavar="STATION")
     parser.add_argument(
         "--at-once",
@@ -46,17 +46,8 @@ def add_plan_words(group: Any) -> None:
     parser.add_argument(
         "--make", action="store_true", help="make a password, and print it: it is shown only here"
     )
-    parser.add_argument("--why", required=True, metavar="REASON", help="the reason, which is kept")
-    parser.add_argument("--who", help="who asks for it (default: the user of this session)")
-    parser.set_defaults(change=change_password)
-    add_quota(group)
-
-
-def add_quota(group: Any) -> None:
-    """The word that sets quotas."""
-    parser: argparse.ArgumentParser = group.add_parser(
-        "quota", help="sets what each station of a site may send", description=QUOTA
-    )
+    parser = add_word(group, "quota", "sets what each station of a site may send", change_quota)
+    parser.description = QUOTA
     parser.add_argument("site", metavar="SITE")
     parser.add_argument("--most-open", type=int, help="transactions without an end; 0: any number")
     parser.add_argument("--most-bytes", type=int, help="bytes of messages a day; 0: any number")
@@ -65,9 +56,6 @@ def add_quota(group: Any) -> None:
         type=int,
         help="messages a second at a gateway, over a minute; 0: any number",
     )
-    parser.add_argument("--why", required=True, metavar="REASON", help="the reason, which is kept")
-    parser.add_argument("--who", help="who asks for it (default: the user of this session)")
-    parser.set_defaults(change=change_quota)
 
 
 def change_quota(store: Database, words: argparse.Namespace, author: Author) -> int:

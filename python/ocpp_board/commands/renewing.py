@@ -7,6 +7,7 @@ from dataclasses import dataclass, replace
 from datetime import date, datetime, timedelta, timezone
 from pathlib import Path
 
+from ocpp_board.limits import SILENT_HOURS
 from ocpp_board.store.database import Database, Row, count_hours, open_again
 from ocpp_board.writers import pages
 from ocpp_board.writers.calendar import find_calendar
@@ -31,13 +32,14 @@ Span = tuple[Site, Sequence[date]]
 
 @dataclass(frozen=True)
 class Shown:
-    """Where pages and tables go, how often, from which age on they say that their data is too old, and what tables
-    have."""
+    """Where pages and tables go, how often, from which age on they say that their data is too old, what tables have,
+    and after how many hours a session is silent."""
 
     out: Path
     every: float
     oldest: float | None
     tables: TableOptions
+    silent: int = SILENT_HOURS
 
 
 class Renewer:
@@ -51,6 +53,7 @@ class Renewer:
             refresh=max(1, round(shown.every)),
             oldest=shown.oldest,
             workers=workers,
+            silent=shown.silent,
         )
         self.writer = pages.PageWriter(store, shown.out, self.options)
         self.book = Book(store)
@@ -84,6 +87,7 @@ class Renewer:
             self.options, until=until or self.options.until
         )
         if self.mark is None:
+            self.find_changed(now)  # What is written now is not found again.
             self.pages += self.writer.write_all()
             self.write_all_tables()
             self.write_mark(now)
@@ -93,7 +97,7 @@ class Renewer:
         if found:
             self.pages += self.writer.write_changed(found)
             self.write_tables(found, rows)
-        self.pages += self.writer.write_new_closings()
+        self.pages += self.writer.write_new_closings() + self.writer.write_others()
         if found or now > self.mark + LATE / 2:
             self.note_seen(now)
             self.write_mark(now)

@@ -30,6 +30,8 @@ from ocpp_board.commands.loading import Loader, Wanted
 from ocpp_board.commands.options import add_log_options, add_store, choose_program
 from ocpp_board.commands.reading import Batch, BatchReader, Meter, ReadOptions
 from ocpp_board.errors import InputError
+from ocpp_board.ledger.mending import describe_mended
+from ocpp_board.ledger.program import find_program
 from ocpp_board.ledger.settlers import Settlers
 from ocpp_board.ledger.verify import verify
 from ocpp_board.processes import leave_interrupts, pause_collector
@@ -67,6 +69,7 @@ class Options:
     written: datetime | None
     until: datetime | None
     oldest: int | None
+    silent: int
 
 
 def add_words(parser: argparse.ArgumentParser) -> None:
@@ -161,6 +164,7 @@ def choose_options(parser: argparse.ArgumentParser, words: argparse.Namespace) -
         words.written,
         words.until,
         words.oldest,
+        words.silent,
     )
 
 
@@ -214,6 +218,8 @@ class Report:
             "(select count(*) from session where events > 0) as sessions"
         )
         assert sites
+        mended = describe_mended(counts)
+        some += f"; mended as the plan declares: {mended}" if mended else ""
         return (
             f"{self.lines:,} lines read; messages: {some or 'none'}. The store has {count_of(sites.sites, 'site')}, "
             f"{count_of(sites.stations, 'station')} and {count_of(sites.sessions, 'transaction')}"
@@ -308,6 +314,7 @@ def write_pages(options: Options, store: Database) -> int:
         first=options.tables.first,
         last=options.tables.last,
         workers=options.processes,
+        silent=options.silent,
     )
     return pages.write_pages(store, options.out, asked)
 
@@ -324,6 +331,7 @@ def run(words: argparse.Namespace) -> int:
     """Does what the words ask for, and gives the exit status."""
     options = choose_options(words.parser, words)
     choose_program(words.program)
+    find_program()  # That there is none is said before anything is read.
     with name_store(options.store) as name:
         with open_store(name, is_durable=options.store is not None) as store:
             return write_report(options, name, store)

@@ -16,10 +16,8 @@ from ocpp_board.statuses import Status
 from ocpp_board.store.database import open_store
 from ocpp_board.store.plan import find_rules
 from ocpp_board.store.values import compare_main
-from ocpp_board.writers.bills import bound_month, find_zone, read_month, write_moment
-from ocpp_board.writers.tables import write_kwh
-
-HEADS = ("start (UTC)", "site meter (kWh)", "EVSEs (kWh)", "losses (kWh)")
+from ocpp_board.writers.bills import bound_month, find_zone, read_month
+from ocpp_board.writers.tables import METER, write_compared
 
 
 def add_words(parser: argparse.ArgumentParser) -> None:
@@ -38,8 +36,6 @@ def run(words: argparse.Namespace) -> int:
         bounds = bound_month(zone, year, month)
         rows = list(compare_main(store, words.site, rules.period, bounds["begin"], bounds["end"]))
     writer = csv.writer(sys.stdout, lineterminator="\n")
-    writer.writerow(HEADS)
-    for starts, main, taken in rows:
-        energies = map(write_kwh, (main, taken, main - taken))
-        writer.writerow([write_moment(starts), *energies])
+    writer.writerow(METER)
+    writer.writerows(map(write_compared, rows))
     return Status.DONE

@@ -12,7 +12,13 @@ import argparse
 import ipaddress
 import logging
 
-from ocpp_board.commands.options import add_program, add_store, add_tokens, choose_program
+from ocpp_board.commands.options import (
+    add_program,
+    add_silent,
+    add_store,
+    add_tokens,
+    choose_program,
+)
 from ocpp_board.ledger.program import find_program
 from ocpp_board.statuses import Status
 from ocpp_board.store.database import open_store
@@ -44,6 +50,7 @@ def add_words(parser: argparse.ArgumentParser) -> None:
     add_store(parser)
     add_program(parser)
     add_tokens(parser)
+    add_silent(parser)
     parser.add_argument(
         "--listen", metavar="ADDRESS", default="127.0.0.1", help="the address (default: 127.0.0.1)"
     )
@@ -77,12 +84,14 @@ def run(words: argparse.Namespace) -> int:
 
     from ocpp_board.web.app import make_app
     from ocpp_board.web.desk import Desk, Stores
+    from ocpp_board.writers.pages.context import PageOptions
 
     choose_program(words.program)
     find_program()
     with open_store(words.store) as store:
         stores = Stores(store)
-        desk = Desk(stores, words.tokens, words.header, words.proxies, words.plain_http)
+        pages = PageOptions(tokens=words.tokens, silent=words.silent)
+        desk = Desk(stores, pages, words.header, words.proxies, words.plain_http)
         config = uvicorn.Config(
             make_app(desk),
             host=words.listen,

@@ -23,6 +23,7 @@ from ocpp_board.gateway.lookouts import Clerk, Gatherer, Lookout, Served
 from ocpp_board.gateway.metrics import Repeated, serve_figures
 from ocpp_board.gateway.pace import Pace
 from ocpp_board.gateway.settler import KEEP_REFUSED
+from ocpp_board.limits import SILENT_HOURS
 from ocpp_board.passwords import Password
 from ocpp_board.gateway.station_socket import (
     HANDSHAKE,
@@ -75,7 +76,7 @@ class Options:
     proxy: list[str] = field(default_factory=list)
     metrics: tuple[str, int] | None = None
     # Hours after which a session that lacks messages is silent.
-    silent: int = 24
+    silent: int = SILENT_HOURS
 
 
 class Gateway:
@@ -86,7 +87,7 @@ class Gateway:
         self.name = f"{os.uname().nodename}-{os.getpid()}-{secrets.token_hex(4)}"
         words = [options.store, *([KEEP_REFUSED] if options.keep_refused else [])]
         self.lanes = Lanes(words, options.lanes, options.patience)
-        # The subprotocols that are offered, the best first.
+        # The subprotocols that there are.
         self.protocols = [PROTOCOL, *([PILOT] if options.pilot else [])]
         self.clerk = Clerk(options.store)
         self.finder = Gatherer(self.clerk, stations.find_stations)

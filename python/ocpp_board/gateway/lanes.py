@@ -12,7 +12,7 @@ import struct
 import time
 import zlib
 from collections import Counter, deque
-from collections.abc import Sequence
+from collections.abc import Mapping, Sequence
 from dataclasses import dataclass, field
 from datetime import datetime, timezone
 from enum import Enum
@@ -42,12 +42,14 @@ class Fate(Enum):
 
 
 class Settled(NamedTuple):
-    """The answers to a batch, or why there are none, and what it took: seconds in all, and of a processor."""
+    """The answers to a batch, or why there are none, the seconds of a processor that it took, and how many messages
+    were mended, by fault."""
 
     fate: Fate
     answers: list[tuple[str, str, str | None]]
     why: str = ""
     processor: float = 0.0
+    mended: Mapping[str, int] = {}
 
 
 class Request(NamedTuple):
@@ -209,6 +211,7 @@ class Lanes:
         self.counts = Counter[str]()
         self.outcomes = Counter[str]()
         self.refusals = Counter[str]()
+        self.mended = Counter[str]()
         self.waits = Waits()
 
     @property
@@ -245,6 +248,7 @@ class Lanes:
         self.counts["batches_failed"] += settled.fate is not Fate.ANSWERED
         self.waits.batches += seconds
         self.waits.processor += settled.processor
+        self.mended.update(settled.mended)
 
     def watch_answer(self, outcome: str, name: str, seconds: float) -> None:
         """Counts an answer."""

@@ -12,6 +12,7 @@ from prometheus_client import CollectorRegistry, ProcessCollector, make_wsgi_app
 from prometheus_client.core import CounterMetricFamily, GaugeMetricFamily, HistogramMetricFamily
 
 from ocpp_board.errors import UsageError
+from ocpp_board.ledger.mending import MENDED
 from ocpp_board.version import version
 
 if TYPE_CHECKING:
@@ -130,6 +131,12 @@ class Figures:
         for name, count in list(lanes.refusals.items()):
             refused.add_metric([name], count)
         yield refused
+        mended = CounterMetricFamily(
+            FRONT + "mended", "Messages that were mended, by fault.", labels=["fault"]
+        )
+        for name, count in list(lanes.mended.items()):
+            mended.add_metric([name.removeprefix(MENDED)], count)
+        yield mended
         buckets, total = list[tuple[str, float]](), 0
         for bound, count in zip((*lanes.waits.BOUNDS, float("inf")), lanes.waits.buckets):
             total += count

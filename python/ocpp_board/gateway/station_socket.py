@@ -5,6 +5,7 @@ import functools
 import http
 import logging
 import time
+from collections.abc import Sequence
 from typing import TYPE_CHECKING, Any
 from urllib.parse import unquote, urlsplit
 
@@ -12,6 +13,7 @@ from websockets.datastructures import Headers
 from websockets.exceptions import ConnectionClosed
 from websockets.legacy.framing import Frame
 from websockets.legacy.server import HTTPResponse, WebSocketServerProtocol
+from websockets.typing import Subprotocol
 
 from ocpp_board.errors import StoreError
 from ocpp_board.gateway.door import Verdict
@@ -80,6 +82,12 @@ class StationSocket(WebSocketServerProtocol):
                 return await super().read_http_request()
         except TimeoutError:
             raise ConnectionAbortedError("no handshake came") from None
+
+    def select_subprotocol(
+        self, client_subprotocols: Sequence[Subprotocol], server_subprotocols: Sequence[Subprotocol]
+    ) -> Subprotocol | None:
+        """The first that the station offers and the gateway has: a station names the one that it wants first."""
+        return next((one for one in client_subprotocols if one in server_subprotocols), None)
 
     async def process_request(self, path: str, headers: Headers) -> HTTPResponse | None:
         """Lets the station in, by nothing, or says why not."""

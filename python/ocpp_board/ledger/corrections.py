@@ -40,13 +40,15 @@ class Came(NamedTuple):
 
 
 class Prepared(NamedTuple):
-    """A session's corrections: what is to be asked of the ledger, and its rows before and after."""
+    """A session's corrections: what is to be asked of the ledger, and its rows before and after; whether a message is
+    another one then."""
 
     station: str
     transaction: str
     asked: list[Asked]
     before: Rows
     after: Rows
+    is_other: bool = True
 
 
 def prepare(
@@ -75,6 +77,7 @@ def prepare_session(
         )
     (stored,) = read_lines(store, [(station, transaction)])
     texts, asked = find_texts(stored), list[Asked]()
+    came = dict(texts)
     now = datetime.now(timezone.utc)
     for one in wanted:
         texts[one.number] = correct_text(texts.get(one.number), one)
@@ -94,7 +97,8 @@ def prepare_session(
                 f"{wanted[0].where}: transaction {transaction} of {station} would not take the correction: "
                 f"{answer.name or answer.reply or answer.outcome}"
             )
-    return Prepared(station, transaction, asked, had.rows, done.rows)
+    is_other = any(texts[one.number] != came[one.number] for one in wanted)
+    return Prepared(station, transaction, asked, had.rows, done.rows, is_other)
 
 
 def find_texts(lines: Sequence[Line]) -> dict[int, Came]:

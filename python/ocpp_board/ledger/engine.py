@@ -12,11 +12,12 @@ from dataclasses import dataclass, field
 from datetime import datetime, timezone
 from functools import lru_cache, partial
 from operator import attrgetter
-from typing import Any, NamedTuple, Protocol
+from typing import Any, NamedTuple
 
 from ocpp_board.errors import InputError
 from ocpp_board.ledger.answers import Wish
 from ocpp_board.ledger.course import Course
+from ocpp_board.ledger.mending import mend_asked, note_mends
 from ocpp_board.ledger.program import find_program
 from ocpp_board.ledger.quotas import (
     FLOODS,
@@ -60,6 +61,7 @@ from ocpp_board.store.plan import (
     write_power,
     write_site,
 )
+from ocpp_board.store.values import estimate_parts, find_near
 
 # An origin that is a place in a file, such as `csms.log:17`.
 PLACE = re.compile(r"(?!.*://).*:[0-9]+")
@@ -67,20 +69,11 @@ PLACE = re.compile(r"(?!.*://).*:[0-9]+")
 ORDER = "order"
 # What became of texts that were refused and taken after all.
 TAKEN, MENDED = "taken", "mended"
-# Texts that a process of a pool is asked at once, and the size of the works that it gets at once.
-TEXTS_AT_ONCE, BYTES_AT_ONCE = 2_000, 1_048_576
 # Transactions that are computed again at once where rules change.
 SESSIONS_AT_ONCE = 2_000
 # Moments that have their nanoseconds kept, since many messages come at one.
 KEPT_MOMENTS = 1_024
 EPOCH = datetime(1970, 1, 1, tzinfo=timezone.utc)
-
-
-class Pool(Protocol):
-    """Processes that work at once."""
-
-    def imap(self, function: Any, pieces: Iterable[Any], /) -> Iterator[Any]:
-        """What the function makes of each piece, in their order."""
 
 
 class Decided(NamedTuple):
@@ -115,46 +108,41 @@ class Batch:
 Foreseen = dict[Key, tuple[Work, Done]]
 
 
-class Share(NamedTuple):
-    """The transactions that a process works on."""
-
-    keys: list[Key]
-    works: list[Work]
-
-
 def settle(
     store: Database,
     asked: Sequence[Asked],
-    pool: Pool | None = None,
     *,
     also: Callable[[Database], None] | None = None,
     warm: Warm | None = None,
     guard: AbstractContextManager[Any] | None = None,
 ) -> list[Answer]:
     """Answers what is asked, in its order, once all that it changes is committed. Raises StoreError and ProgramError,
-    and then nothing has changed. `pool`: processes among which texts and transactions are parted; `also`: is called
-    within the database transaction, right before its commit; `warm`: what this process stored last; `guard`: is held
-    together with a SQLite file, where several processes settle at once, and all that can be is computed before.
+    and then nothing has changed. `also`: is called within the database transaction, right before its commit; `warm`:
+    what this process stored last; `guard`: is held together with a SQLite file, where several processes settle at once,
+    and all that can be is computed before.
     """
-    batch = Batch(asked, ask_program(asked, pool))
+    put = mend_asked(store, asked, warm)
+    batch = Batch(put.asked, ask_program(put.asked))
     sort_asked(batch)
     find_strangers(store, batch)
     if batch.sessions or batch.refusals or batch.others or batch.mended or also:
         foreseen = foresee(store, batch) if guard and store.kind == "sqlite" else {}
         with guard or nullcontext(), store.transaction():
-            kept = write_batch(store, batch, pool, warm, foreseen)
+            kept = write_batch(store, batch, warm, foreseen)
             if also:
                 also(store)
         if warm is not None:
             for key, one in kept.items():
                 warm.keep(key, one)
-    return [batch.answers[place] for place in range(len(asked))]
+    answers = put.join([batch.answers[place] for place in range(len(batch.asked))])
+    note_mends(asked, answers, put)
+    return answers
 
 
 # What is asked -------------------------------------------------------------------------------------------------------
 
 
-def ask_program(asked: Sequence[Asked], pool: Pool | None) -> dict[int, Wish]:
+def ask_program(asked: Sequence[Asked]) -> dict[int, Wish]:
     """What each message asks for, by its place."""
     places = [place for place, one in enumerate(asked) if isinstance(one, Message)]
     texts, moments = list[str](), list[int | None]()
@@ -163,19 +151,7 @@ def ask_program(asked: Sequence[Asked], pool: Pool | None) -> dict[int, Wish]:
         assert isinstance(one, Message)
         texts.append(one.text)
         moments.append(to_nanoseconds(one.received))
-    if pool is None or len(texts) <= TEXTS_AT_ONCE:
-        return dict(zip(places, find_program().ask(texts, moments) if texts else ()))
-    pieces = [
-        (texts[at : at + TEXTS_AT_ONCE], moments[at : at + TEXTS_AT_ONCE])
-        for at in range(0, len(texts), TEXTS_AT_ONCE)
-    ]
-    wishes = (wish for some in pool.imap(ask_piece, pieces) for wish in some)
-    return dict(zip(places, wishes))
-
-
-def ask_piece(piece: tuple[list[str], list[int | None]]) -> list[Wish]:
-    """What texts ask for, in a process of a pool."""
-    return find_program().ask(*piece)
+    return dict(zip(places, find_program().ask(texts, moments) if texts else ()))
 
 
 @lru_cache(KEPT_MOMENTS)
@@ -229,7 +205,7 @@ def sort_message(batch: Batch, place: int, one: Message, wish: Wish) -> None:
     if is_left_out(one.text, cause):
         batch.answers[place] = Answer("reply", cause, reply)
         return
-    refusal = describe_message(one.text, cause, one.received)
+    refusal = describe_message(one.came or one.text, cause, one.received)
     batch.refusals.append((one, refusal, refusal.sent_id.lower()))
     batch.answers[place] = Answer(wish.outcome if reply is None else "refused", cause, reply)
 
@@ -257,7 +233,7 @@ def find_strangers(store: Database, batch: Batch) -> None:
 
 
 def write_batch(
-    store: Database, batch: Batch, pool: Pool | None, warm: Warm | None, foreseen: Foreseen
+    store: Database, batch: Batch, warm: Warm | None, foreseen: Foreseen
 ) -> dict[Key, Kept]:
     """Writes what a batch changes, within a database transaction, and answers the rest of it."""
     planned = hold_sites(store, batch, warm)
@@ -271,18 +247,26 @@ def write_batch(
     deeds = find_done(store, batch)
     batch.answers |= deeds
     works = make_works(store, batch, held, deeds, planned)
-    writer, kept = Writer(store), dict[Key, Kept]()
-    for key, work, done in work_on(works, pool, foreseen):
+    writer, kept, unmeasured = Writer(store), dict[Key, Kept](), set[Key]()
+    for key, work, done in work_on(works, foreseen):
         take_answers(store, batch, work, done, held[key], deeds)
         if now := write_rows(writer, work, held[key], done):
             kept[key] = now
+        if is_unmeasured(done):
+            unmeasured.add(key)
     writer.write()
     write_refusals(store, batch)
     write_decided(store, batch)
     write_strays(store, batch)
     write_mended(store, batch)
-    write_levels(store, batch, sites)
+    estimate_parts(store, unmeasured | write_levels(store, batch, sites))
     return kept
+
+
+def is_unmeasured(done: Done) -> bool:
+    """Whether a transaction was written that is over and whose readings do not say its energy."""
+    session = done.rows.session if done.rows else None
+    return session is not None and session.ended is not None and session.energy_measured != "yes"
 
 
 def make_works(
@@ -323,7 +307,7 @@ def foresee(store: Database, batch: Batch) -> Foreseen:
         known = {key: sites[key[0]] for key in batch.sessions if key[0] in sites}
         held = store_lines.hold_sessions(store, known)
         works = make_works(store, batch, held, find_done(store, batch), planned)
-    return {key: (work, done) for key, work, done in work_on(works, None)}
+    return {key: (work, done) for key, work, done in work_on(works)}
 
 
 def hold_sites(store: Database, batch: Batch, warm: Warm | None) -> Planned:
@@ -403,7 +387,7 @@ def refuse_message(batch: Batch, place: int, name: str) -> None:
     """Answers a message that is above the quota of this name."""
     one = batch.asked[place]
     assert isinstance(one, Message)
-    refusal = describe_message(one.text, name, one.received)
+    refusal = describe_message(one.came or one.text, name, one.received)
     batch.refusals.append((one, refusal, refusal.sent_id.lower()))
     batch.answers[place] = Answer("refused", name, write_reply(one.text, name))
 
@@ -472,39 +456,15 @@ def make_line(one: Asked) -> Line:
 
 
 def work_on(
-    works: dict[Key, Work], pool: Pool | None, foreseen: Foreseen | None = None
+    works: dict[Key, Work], foreseen: Foreseen | None = None
 ) -> Iterator[tuple[Key, Work, Done]]:
     """What became of each transaction's new lines, and its rows."""
     some = {key: work for key, work in works.items() if work.new or work.has_rows}
     for key, (work, done) in (foreseen or {}).items():
         if some.get(key) == work:
             yield key, some.pop(key), done
-    if pool is None:
-        for (key, work), done in zip(some.items(), work_out(find_program(), some.values())):
-            yield key, work, done
-        return
-    pieces = list(part_works(some))
-    for piece, found in zip(pieces, pool.imap(work_piece, (piece.works for piece in pieces))):
-        yield from zip(piece.keys, piece.works, found)
-
-
-def part_works(works: dict[Key, Work]) -> Iterator[Share]:
-    """Works in pieces for the processes of a pool."""
-    piece, size = Share([], []), 0
-    for key, work in works.items():
-        piece.keys.append(key)
-        piece.works.append(work)
-        size += sum(len(line.text) for line in (*work.stored, *work.new))
-        if size > BYTES_AT_ONCE:
-            yield piece
-            piece, size = Share([], []), 0
-    if piece.keys:
-        yield piece
-
-
-def work_piece(works: list[Work]) -> list[Done]:
-    """What became of transactions, in a process of a pool."""
-    return list(work_out(find_program(), works))
+    for (key, work), done in zip(some.items(), work_out(find_program(), some.values())):
+        yield key, work, done
 
 
 def take_answers(
@@ -521,7 +481,7 @@ def take_answers(
         if isinstance(one, Deed):
             write_deed(store, one, answer)
         elif isinstance(one, Message) and answer.outcome in ("refused", "fault"):
-            refusal = describe_message(one.text, answer.name, one.received)
+            refusal = describe_message(one.came or one.text, answer.name, one.received)
             batch.refusals.append((one, refusal, key[1]))
     if held.refusals or batch.mended:
         taken = [
@@ -682,9 +642,10 @@ def write_mended(store: Database, batch: Batch) -> None:
         store.execute_each(store_lines.ADD_MENDED, rows)
 
 
-def write_levels(store: Database, batch: Batch, sites: dict[str, str]) -> None:
-    """Adds what registers read in MeterValues outside transactions."""
-    found = dict[tuple[str, int], list[tuple[datetime, int]]]()
+def write_levels(store: Database, batch: Batch, sites: dict[str, str]) -> set[Key]:
+    """Adds what registers read in MeterValues outside transactions, and gives the transactions of which they may say
+    more than readings do."""
+    found, near = dict[tuple[str, int], list[tuple[datetime, int]]](), set[Key]()
     for one in batch.others:
         evse, levels = read_levels(one.text) if one.station in sites else (0, [])
         for level in levels:
@@ -692,6 +653,9 @@ def write_levels(store: Database, batch: Batch, sites: dict[str, str]) -> None:
             found.setdefault((one.station, evse), []).append((at, level.mwh))
     for (station, evse), some in sorted(found.items()):
         store_lines.merge_level(store, station, evse, some)
+        if evse:
+            near.update(find_near(store, station, evse, min(some)[0], max(some)[0]))
+    return near
 
 
 # The plan ------------------------------------------------------------------------------------------------------------
@@ -750,10 +714,13 @@ def renew_sessions(
     for key, one in held.items():
         own = own_rules(rules[one.site], one.own_order, powers.get(key[0]))
         works[key] = Work(*key, one.site, own, one.lines, [], list_conflicts(key, one), True)
-    writer = Writer(store)
-    for key, work, done in work_on(works, None):
+    writer, unmeasured = Writer(store), set[Key]()
+    for key, work, done in work_on(works):
         write_rows(writer, work, held[key], done)
+        if is_unmeasured(done):
+            unmeasured.add(key)
     writer.write()
+    estimate_parts(store, unmeasured)
 
 
 def order_session(
@@ -783,9 +750,7 @@ def order_session(
         write_deed(store, deed, Answer(f"by {order}", "", None, key[1]))
 
 
-def take_strays(
-    store: Database, stations: Iterable[str] | None = None, pool: Pool | None = None
-) -> list[Answer]:
+def take_strays(store: Database, stations: Iterable[str] | None = None) -> list[Answer]:
     """Settles what came of stations before the plan had them, in the order of receipt. `stations`: None for all that
     the plan has by now."""
     asked = """select station, digest, site, text, received, origin from stray where station = :station
@@ -799,7 +764,7 @@ def take_strays(
         texts = [
             Message(station, row.text, row.received, row.origin, row.site or None) for row in rows
         ]
-        answers += settle(store, texts, pool, also=partial(forget_strays, rows))
+        answers += settle(store, texts, also=partial(forget_strays, rows))
     return answers
 
 

@@ -72,23 +72,24 @@ class Fall(NamedTuple):
     one: Reading
 
 
+def is_reset(fall: Fall, readings: Sequence[Reading]) -> bool:
+    """Whether a register of these readings was reset where it fell: it began below the session's first reading, and
+    does not leap from there to where it was before, as it does behind a wrong reading."""
+    own = [one for one in readings if one.is_export == fall.one.is_export]
+    start = own[0].mwh
+    if fall.had.mwh - fall.one.mwh < LEAST_RESET or fall.one.mwh >= start:
+        return False
+    for one, after in pairwise(own[own.index(fall.one) :]):
+        if one.mwh - after.mwh >= LEAST_RESET:
+            break
+        if one.mwh < start and after.mwh >= fall.had.mwh:
+            return False
+    return True
+
+
 def report_falls(falls: Sequence[Fall], readings: Sequence[Reading]) -> Iterator[Finding]:
     """Falls of registers of a session with these readings: those of meters that were reset, and the others."""
-    if not falls:
-        return
-    starts = {
-        is_export: next((r.mwh for r in readings if r.is_export == is_export), 0)
-        for is_export in (False, True)
-    }
-    resets = [
-        fall
-        for fall in falls
-        if fall.had.mwh - fall.one.mwh >= LEAST_RESET
-        and max(
-            r.mwh for r in readings[readings.index(fall.one) :] if r.is_export == fall.one.is_export
-        )
-        < starts[fall.one.is_export]
-    ]
+    resets = [fall for fall in falls if is_reset(fall, readings)]
     others = [fall for fall in falls if fall not in resets]
     for kind, some in ((Kind.REGISTER_FALLS, others), (Kind.RESET, resets)):
         lost = describe_falls(some)
@@ -270,6 +271,13 @@ class Doubts:
             found += make_finding(Kind.NUMBERS_ABOVE_0, [(events[0], f"the first is {first}")])
         return sort_findings(found)
 
+    def find_resets(self, events: LiveEvents) -> list[Fall]:
+        """Where a register of the session was reset. `events`: all that were taken."""
+        falls, readings = [*self.falls[0], *self.falls[1]], events.list_readings()
+        if self.by_sequence is not None:
+            falls, readings, _ = list_falls_by_sequence(events, self.resolution)
+        return [fall for fall in falls if is_reset(fall, readings)]
+
     @staticmethod
     def has_voided_begin(events: LiveEvents) -> bool:
         """Whether a Started event came that somebody voided."""
@@ -419,11 +427,11 @@ def find_course(readings: Sequence[Reading], resolution: int) -> tuple[int, bool
     return readings[-1].mwh - readings[0].mwh, falls
 
 
-def find_falls_by_sequence(
-    events: LiveEvents, remedy: str, resolution: int = 1
-) -> Iterator[Finding]:
-    """Where a register falls from one reading to the next by more than it resolves, and where readings are listed
-    again."""
+def list_falls_by_sequence(
+    events: LiveEvents, resolution: int
+) -> tuple[list[Fall], list[Reading], list[Event]]:
+    """Where a register falls from one reading to the next by more than it resolves, its readings, and the events that
+    list readings again."""
     seen = set[Reading]()
     before: dict[bool, Reading] = {}
     firsts: dict[bool, Reading] = {}
@@ -445,6 +453,14 @@ def find_falls_by_sequence(
             readings.append(one)
             before[one.is_export] = one
         seen.update(event.readings)
+    return falls, readings, repeats
+
+
+def find_falls_by_sequence(
+    events: LiveEvents, remedy: str, resolution: int = 1
+) -> Iterator[Finding]:
+    """Where a register falls by the sequence of the events, and where readings are listed again."""
+    falls, readings, repeats = list_falls_by_sequence(events, resolution)
     yield from report_falls(falls, readings)
     by_moment = f"{remedy} takes them by moment"
     yield from make_finding(Kind.REPEATED, [(event, by_moment) for event in repeats])
@@ -459,7 +475,7 @@ class Power:
 
     def take(self, measured: Measured) -> None:
         """Takes what a message measures."""
-        self.intervals += measured.intervals
+        self.intervals += sum(mwh for _, mwh in measured.intervals)
         for at, watts in measured.powers:
             if self.last and 0 < at - self.last[0] <= LONGEST_POWER:
                 # Watt-seconds are 3.6ths of milliwatt-hours.

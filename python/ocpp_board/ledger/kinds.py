@@ -26,8 +26,8 @@ class Kind(Enum):
     )
     MORE_POWER = (
         "more power than before",
-        "The register rose faster than in nearly all other sessions of the station. If the station can give so much, "
-        "say so by `plan station --most-kw`; else correct the wrong reading by `operate correct`.",
+        "The register rose faster than in nearly all of the station's sessions around it. If the station can give so "
+        "much, say so by `plan station --most-kw`; else correct the wrong reading by `operate correct`.",
         Effect.WRONG,
         True,
     )
@@ -51,8 +51,9 @@ class Kind(Enum):
     RESET = (
         "register reset or exchanged",
         "The register reads less than before and stays there: the meter was reset or exchanged within the session, "
-        "and its energy is too low by what was lost. Declare the exchange by `adjust exchange`, or what the detail "
-        "proposes by `adjust credit`; then `release` the session.",
+        "and its energy is too low by what was lost. Declare it by `adjust exchange`: `adjust propose` has the line, "
+        "by which the session has its rises before and after. Put in what the two meters read, if you know it; then "
+        "`release` the session.",
         Effect.WRONG,
         True,
     )
@@ -149,9 +150,9 @@ class Kind(Enum):
     )
     NO_READING = (
         "no counted reading",
-        "The session is complete and has no reading of energy, so it shows 0 kWh. Declare its energy by `adjust "
-        "estimate --register meter-values` where MeterValues of its EVSE are around it (`estimates` lists them), else "
-        "by `adjust credit`, as the log or the meter says.",
+        "All messages of the session came, and none has a reading of energy, so it shows 0 kWh. Declare its energy by "
+        "`adjust estimate --register meter-values` where MeterValues of its EVSE are around it (`estimates` lists "
+        "them), else by `adjust credit`, as the log or the meter says.",
         Effect.LACKS,
         False,
     )

@@ -1,5 +1,6 @@
 """How the figures of settlement periods were come by: measured at both ends of a period, or shared by time."""
 
+import math
 from bisect import bisect_left
 from collections.abc import Collection, Iterable, Iterator, Sequence
 from itertools import pairwise
@@ -19,10 +20,12 @@ Shares = dict[int, int]  # By the beginnings of periods, in seconds since 1970, 
 
 class Doubt(NamedTuple):
     """What is doubtful in a period. `shared`: what it gets, in mWh, where the energy between the readings around its
-    unmeasured ends is shared by time; `has_gap`: numbers are missing in it."""
+    unmeasured ends is shared by time; `by_values`: what interval values give, where no register was read; `has_gap`:
+    numbers are missing in it."""
 
     is_estimated: bool = False
     shared: int = 0
+    by_values: int | None = None
     has_gap: bool = False
 
 
@@ -49,10 +52,14 @@ class Spans:
         # By register, what periods get if energy is shared by time; None where that is to be looked for again, since
         # readings came in another order than that of their times, or since there are many periods.
         self.shares: list[Shares | None] = [{}, {}]
+        # Interval values by their times.
+        self.intervals: list[tuple[float, int]] = []
 
     def take_events(self, events: Iterable[Event]) -> None:
         """Takes further events."""
-        self.of_events = widen(self.of_events, [one.at for one in events if one.at is not None])
+        some = list(events)
+        self.of_events = widen(self.of_events, [one.at for one in some if one.at is not None])
+        self.intervals += [pair for one in some for pair in one.measured.intervals]
 
     def take_readings(self, is_export: bool, had: Reading | None, found: Sequence[Counted]) -> None:
         """Takes further readings of a register. `had`: the one before them."""
@@ -97,8 +104,9 @@ class Spans:
         )
         starts |= dict.fromkeys(self.find_unread())
         shares = [self.find_shares(events, is_export, starts) for is_export in (False, True)]
+        values = self.share_intervals() if self.of_readings is None else {}
         doubts = {
-            start: Doubt(True, shares[0].get(start, 0) + shares[1].get(start, 0))
+            start: Doubt(True, shares[0].get(start, 0) + shares[1].get(start, 0), values.get(start))
             for start in starts
         }
         for start in find_periods_with_gaps(events, self.seconds, gaps):
@@ -133,6 +141,20 @@ class Spans:
             yield from range(
                 start, min(int(until) + 1, start + MOST_PERIODS * self.seconds), self.seconds
             )
+
+    def share_intervals(self) -> Shares:
+        """What periods get of interval values, each of which is of the time since the one before, or since the
+        start."""
+        found = dict[int, int]()
+        if self.intervals and self.of_events:
+            ends = sorted(self.intervals)
+            for since, (at, mwh) in zip([self.of_events[0], *(end for end, _ in ends)], ends):
+                if 0 < at - since <= MOST_PERIODS * self.seconds:
+                    first = int(since // self.seconds) * self.seconds
+                    for start in range(first, math.ceil(at), self.seconds):
+                        part = min(at, start + self.seconds) - max(since, start)
+                        found[start] = found.get(start, 0) + round(mwh * part / (at - since))
+        return found
 
     def find_shares(self, events: LiveEvents, is_export: bool, starts: Collection[int]) -> Shares:
         """What these periods get of a register where energy is shared by time."""

@@ -75,7 +75,7 @@ class Session(NamedTuple):
 
 class Part(NamedTuple):
     """A row of `part`: a settlement period of a transaction. `on_board`: a board shows the period; `shared`: None where
-    the figure is measured."""
+    the figure is measured; `by_values`: what interval values give where no register was read."""
 
     starts: datetime
     up: int
@@ -85,6 +85,7 @@ class Part(NamedTuple):
     on_board: bool
     measured: bool
     shared: int | None
+    by_values: int | None
     numbers_missing: bool
 
 
@@ -404,9 +405,9 @@ def name_state(figures: Figures, course: Course) -> str:
     history, events = course.history, course.events
     voids = {number: history.voids[number] for number in sorted(history.voids)}
     if figures.complete:
-        return "complete"
+        return "messages complete"
     if step := course.facts.find_step(figures):
-        return f"complete, numbers in steps of {step}"
+        return f"messages complete, numbers in steps of {step}"
     if figures.missing:
         inside = [one for number, one in voids.items() if figures.first < number < figures.last]
         if not inside:
@@ -444,5 +445,6 @@ def make_part(start: int, flow: Flow | None, doubt: Doubt) -> Part:
         flow is not None,
         not doubt.is_estimated,
         doubt.shared if doubt.is_estimated else None,
+        doubt.by_values,
         doubt.has_gap,
     )

@@ -3,13 +3,16 @@
 import multiprocessing
 from collections import Counter
 from collections.abc import Sequence
-from multiprocessing.pool import AsyncResult
+from concurrent.futures import Future, ProcessPoolExecutor
+from concurrent.futures.process import BrokenProcessPool
 from multiprocessing.synchronize import Lock
 from types import TracebackType
 from typing import Any
 from zlib import crc32
 
+from ocpp_board.errors import StoreAway
 from ocpp_board.ledger.engine import settle
+from ocpp_board.ledger.mending import count_mended
 from ocpp_board.processes import leave_interrupts, pause_collector
 from ocpp_board.records import Asked, Deed, Message, Untaken
 from ocpp_board.store.database import Database, open_store
@@ -40,21 +43,24 @@ def settle_own(packed: Packed) -> Counter[str]:
     with pause_collector():
         asked = [KINDS[place]._make(values) for place, values in packed]
         answers = settle(Settler.store, asked, guard=Settler.guard)
-        return Counter(one.outcome for one in answers)
+        return Counter(one.outcome for one in answers) + count_mended(answers)
 
 
 class Pending:
     """What was asked and is being settled, a part by each process."""
 
-    def __init__(self, parts: "list[AsyncResult[Counter[str]]]") -> None:
+    def __init__(self, parts: "list[Future[Counter[str]]]") -> None:
         self.parts = parts
 
     def get(self) -> Counter[str]:
         """How many there are of each outcome, once all of it is committed. Raises StoreError and ProgramError; what is
         of other stations may be settled then."""
         found = Counter[str]()
-        for part in self.parts:
-            found += part.get()
+        try:
+            for part in self.parts:
+                found += part.result()
+        except BrokenProcessPool:
+            raise StoreAway("a process that settles was ended") from None
         return found
 
 
@@ -64,7 +70,9 @@ class Settlers:
     def __init__(self, name: str, processes: int, is_durable: bool = True) -> None:
         context = multiprocessing.get_context(START)
         words = (name, is_durable, context.Lock())
-        self.pools = [context.Pool(1, open_settler, words) for _ in range(processes)]
+        self.pools = [
+            ProcessPoolExecutor(1, context, open_settler, words) for _ in range(processes)
+        ]
         self.place_of = dict[str, int]()
 
     def find_place(self, station: str) -> int:
@@ -76,19 +84,26 @@ class Settlers:
         return place
 
     def submit(self, asked: Sequence[Asked]) -> Pending:
-        """Has some of what is asked settled; the next may be submitted before this is."""
+        """Has some of what is asked settled; the next may be submitted before this is. Raises StoreError."""
         parts: list[Packed] = [[] for _ in self.pools]
         for one in asked:
             parts[self.find_place(one.station)].append((PLACES[type(one)], tuple(one)))
-        return Pending(
-            [pool.apply_async(settle_own, (part,)) for pool, part in zip(self.pools, parts) if part]
-        )
+        try:
+            return Pending(
+                [pool.submit(settle_own, part) for pool, part in zip(self.pools, parts) if part]
+            )
+        except BrokenProcessPool:
+            raise StoreAway("a process that settles was ended") from None
 
     def close(self) -> None:
         """Ends the processes, once they have settled what was submitted."""
         for pool in self.pools:
-            pool.close()
-            pool.join()
+            pool.shutdown()
+
+    def drop(self) -> None:
+        """Ends the processes after the batches that they settle; what waits is not settled."""
+        for pool in self.pools:
+            pool.shutdown(wait=False, cancel_futures=True)
 
     def __enter__(self) -> "Settlers":
         return self
@@ -101,6 +116,5 @@ class Settlers:
     ) -> None:
         if fault is None:
             self.close()
-            return
-        for pool in self.pools:
-            pool.terminate()
+        else:
+            self.drop()

@@ -13,8 +13,8 @@ from typing import Any, NamedTuple
 from ocpp_board.errors import InputError, UsageError
 from ocpp_board.ledger.corrections import find_texts
 from ocpp_board.ledger.engine import MENDED, TAKEN, renew_sessions, settle
-from ocpp_board.ledger.refusals import digest_text, keep_text
-from ocpp_board.limits import MOMENT, TRANSACTION
+from ocpp_board.ledger.mending import make_mender
+from ocpp_board.limits import TRANSACTION
 from ocpp_board.messages.corrected import rename_transaction
 from ocpp_board.messages.meter_values import JSON
 from ocpp_board.messages.times import seconds_of
@@ -30,9 +30,6 @@ select r.station, r.cause, r.digest, r.transaction_id, r.sent_id, r.sent_number,
     r.times, r.first_at, coalesce(t.site, r.site) as site
 from refusal r left join station t on t.station = r.station
 where r.decision = ''
-"""
-BEGAN = """
-select began from session where station = :station and transaction_id = :transaction_id
 """
 DROP = "delete from refusal where station = :station and digest = :digest and decision = ''"
 COUNT_AS_BEFORE = """
@@ -139,7 +136,8 @@ def take(store: Database, rows: Sequence[Row], how: How, author: Author) -> list
         raise UsageError(
             f"--text is one text, and {len(rows):,} are chosen; name its --number or --cause"
         )
-    mender, asked, own = make_mender(store, rows, how), list[Asked](), list[list[int]]()
+    mends = {one.site: how.mends for one in rows}
+    mender, asked, own = make_mender(store, mends), list[Asked](), list[list[int]]()
     for station, transaction in {(one.station, one.transaction_id): None for one in rows}:
         asked += move_events(store, station, transaction, how, author)
     moved = len(asked)
@@ -169,16 +167,6 @@ def check_id(how: How) -> None:
         raise UsageError(f"{how.new_id!r} is no id of a transaction")
     if how.since is not None and how.new_id is None:
         raise UsageError("--since needs --as ID: which id the events get")
-
-
-def make_mender(store: Database, rows: Sequence[Row], how: How) -> Mender:
-    """What mends these texts. A session's beginning is that of the store."""
-
-    def find_begin(station: str, transaction: str) -> str | None:
-        row = store.fetch_one(BEGAN, station=station, transaction_id=transaction.lower())
-        return row.began.strftime(MOMENT) if row and row.began else None
-
-    return Mender({one.site: how.mends for one in rows}, find_begin)
 
 
 def make_texts(row: Row, how: How, mender: Mender) -> Mended:
@@ -239,13 +227,13 @@ def note(
         return Taken(row, done[-1][1])
     for one, answer in lost:
         assert isinstance(one, Message)
-        key = {"station": row.station, "digest": digest_text(keep_text(one.text))}
-        if one.text != row.text:
-            store.execute(DROP, **key)
-        elif answer.name == row.cause:
+        key = {"station": row.station, "digest": row.digest}
+        if answer.name == row.cause:
             store.execute(COUNT_AS_BEFORE, **key, cause=row.cause, times=row.times)
         else:
-            store.execute(f"{DROP} and cause = :cause", **key, cause=row.cause)
+            # A text that was mended waits with the cause that it had as it came.
+            cause = answer.name if one.came else row.cause
+            store.execute(f"{DROP} and cause = :cause", **key, cause=cause)
     return Taken(row, lost[0][1])
 
 

@@ -6,12 +6,11 @@ A site's lines are replayed in scripts of up to 64 stations; boards of scripts t
 from collections.abc import Iterable, Iterator, Sequence
 from datetime import datetime, timezone
 from itertools import repeat
-from typing import Any, NamedTuple, TypeVar
+from typing import Any, NamedTuple, Protocol, TypeVar
 
 from ocpp_board.energies import Flow
 from ocpp_board.errors import OcppBoardError
 from ocpp_board.ledger.answers import AnswerReader, Board, BoardPart, Figures, Total
-from ocpp_board.ledger.engine import Pool
 from ocpp_board.ledger.program import find_program
 from ocpp_board.ledger.scripts import OWN_ORDERS, join_scripts
 from ocpp_board.limits import FIRST_MOMENT
@@ -34,6 +33,13 @@ select s.station, (
 """
 COUNTS = ("events", "voided", "transactions", "complete_transactions", "missing")
 FLOW = Flow._fields
+
+
+class Pool(Protocol):
+    """Processes that work at once."""
+
+    def imap(self, function: Any, pieces: Iterable[Any], /) -> Iterator[Any]:
+        """What the function makes of each piece, in their order."""
 
 
 class Difference(OcppBoardError):
@@ -180,7 +186,7 @@ def compare_site(store: Database, site: str, board: Board) -> int:
         name: values for name, values in shown.items() if name in stations or values != nothing
     }
     figures += compare(f"site {site}, station", (*COUNTS, *FLOW), planned, stations)
-    asked = f"select starts, {flows} from board_site_period where site = :site"
+    asked = f"select starts, {flows} from board_site_period where site = :site and shown = 1"
     figures += compare(
         f"site {site}, period",
         FLOW,
@@ -198,7 +204,7 @@ def compare_site(store: Database, site: str, board: Board) -> int:
             for evse, flow in part.evses.items()
         },
     )
-    asked = f"select station, starts, {flows} from board_period where site = :site"
+    asked = f"select station, starts, {flows} from board_period where site = :site and shown = 1"
     figures += compare(
         f"site {site}, station and period",
         FLOW,

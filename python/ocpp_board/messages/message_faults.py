@@ -41,11 +41,18 @@ MEND_UNIT = MEND.format("unit", "in Wh or kWh, as its letters mean")
 MEND_ID = MEND.format("ids", "without blanks and braces in the id")
 MEND_EVSE = MEND.format("evse", "with EVSE 0 as none, and `evse:70:1` EVSE 70 as 1")
 MEND_NEGATIVE = MEND.format("negative", "as 0, if it is small")
-MEND_PARTED = MEND.format("parted", "in several events, if it is the end")
+MEND_PARTED = MEND.format("parted", "in several events")
 # What is advised where none does.
 CORRECT = (
     "correct the text, or leave it out: in a store by `ocpp-board take STATION --text FILE --why ..`, or `take STATION "
     "--leave`"
+)
+
+
+# Why no other event than the end is parted.
+WHOLE = (
+    "OCPP counts a transaction's events by 1, and the next number is that of its next event, so only an end can be "
+    f"parted: keep at most 1,024 readings, such as those where periods begin; {CORRECT}"
 )
 
 
@@ -340,6 +347,8 @@ def message_fault(text: str, name: str) -> Said:
     other = ("a timestamp", "is no time") if is_moment else ("a member", "broke the check")
     failed = ((member, what) for fault, member, what in checks.failed if fault == name)
     member, what = next(failed, other)
+    if name == "TooManyReadings" and frame[3].get("eventType") != "Ended":
+        return f"{member} {what}", WHOLE
     return f"{member} {what}", find_remedy(name, member, what, member in checks.texts)
 
 

@@ -35,11 +35,11 @@ class Reading(NamedTuple):
 
 
 class Measured(NamedTuple):
-    """What a message measures beside the registers that count: power by time (seconds since 1970, and W), the sum of
-    interval values in mWh, and a unit that is beside a value, where OCPP 2.0.1 has none."""
+    """What a message measures beside the registers that count: power by time (seconds since 1970, and W), interval
+    values by time in mWh, and a unit that is beside a value, where OCPP 2.0.1 has none."""
 
     powers: tuple[tuple[float, float], ...] = ()
-    intervals: int = 0
+    intervals: tuple[tuple[float, int], ...] = ()
     unit: str = ""
 
 
@@ -97,7 +97,7 @@ def read_beside(payload: dict[str, Any]) -> Beside:
     others, unlike = set[str](), list[str]()
     info = payload["transactionInfo"]
     has_details = "idToken" in payload or "remoteStartId" in info
-    powers, intervals, unit = list[tuple[float, float]](), 0, ""
+    powers, intervals, unit = list[tuple[float, float]](), list[tuple[float, int]](), ""
     for value in payload.get("meterValue") or ():
         for sampled in value["sampledValue"]:
             measurand = measurand_of(sampled)
@@ -105,11 +105,10 @@ def read_beside(payload: dict[str, Any]) -> Beside:
             has_details = has_details or is_signed
             if measurand.startswith(ENERGY) and not is_counted:
                 others.add(plain(measurand))
-                if measurand == INTERVAL:
-                    intervals += max(read_mwh(sampled), 0)
-            elif measurand == POWER:
-                at, watts = seconds_of(value["timestamp"]), read_mwh(sampled) / 1_000
-                powers += [(at, watts)] if at is not None else []
+                if measurand == INTERVAL and (at := seconds_of(value["timestamp"])) is not None:
+                    intervals.append((at, max(read_mwh(sampled), 0)))
+            elif measurand == POWER and (at := seconds_of(value["timestamp"])) is not None:
+                powers.append((at, read_mwh(sampled) / 1_000))
             if is_counted and sampled.get("unit") not in (None, "Wh"):
                 unit = plain(sampled["unit"])
             if is_counted and is_signed:
@@ -121,7 +120,7 @@ def read_beside(payload: dict[str, Any]) -> Beside:
         plain(info.get("stoppedReason")),
         tuple(unlike),
         details_of(payload) if has_details else NOTHING,
-        Measured(tuple(powers), intervals, unit)
+        Measured(tuple(powers), tuple(intervals), unit)
         if powers or intervals or unit
         else NOTHING_MEASURED,
     )

@@ -104,7 +104,7 @@ def read_fault(text: str) -> tuple[str, Fault]:
         return fault, Fault(wh=int(more))
     if fault == EVSE and EVSES.fullmatch(more):
         pairs = [one.split(":") for one in more.split(",")]
-        if all(1 <= int(meant) <= MOST_EVSES for _, meant in pairs):
+        if all(1 <= int(meant) <= MOST_EVSES < int(sent) for sent, meant in pairs):
             return fault, Fault(evses=tuple((int(sent), int(meant)) for sent, meant in pairs))
     if fault in HINT and fault != NO_OFFSET and not more:
         return fault, Fault()
@@ -184,11 +184,11 @@ class Mender:
     """Mends messages of sites as is declared, and counts them."""
 
     def __init__(self, mends: Mends, find_begin: FindBegin | None = None) -> None:
-        """`find_begin`: where the beginnings of sessions are known; else those of messages that came are."""
+        """`find_begin`: where the beginnings of sessions are known whose Started event was not seen."""
         self.mends = mends
         # By site and fault, how many messages were mended.
         self.counts = Counter[tuple[str, str]]()
-        self.find_begin = find_begin or self.find_seen
+        self.find_begin = find_begin
         self.begins = OrderedDict[tuple[str, str], str]()
 
     def find_seen(self, station: str, transaction: str) -> str | None:
@@ -246,12 +246,16 @@ class Mender:
 
     def date_begin(self, station: str, payload: dict[str, Any]) -> bool:
         """Gives a Transaction.Begin that an end lists with its own time the time of the start; whether it did."""
+        if "transactionInfo" not in payload:
+            return False
         transaction, kind = payload["transactionInfo"]["transactionId"], payload["eventType"]
         if kind == "Started":
             self.begins[station, transaction.lower()] = payload["timestamp"]
             if len(self.begins) > KEPT_BEGINS:
                 self.begins.popitem(last=False)
-        begin = self.find_begin(station, transaction) if kind == "Ended" else None
+        begin = self.find_seen(station, transaction) if kind == "Ended" else None
+        if kind == "Ended" and begin is None and self.find_begin:
+            begin = self.find_begin(station, transaction)
         if begin is None:
             return False
         end, values = seconds_of(payload["timestamp"]), list[Any]()
@@ -336,7 +340,7 @@ def drop_untimed(payload: dict[str, Any], _fault: Fault) -> bool:
 
 def date_by_receipt(payload: dict[str, Any], at: str) -> bool:
     """Gives an event whose time is none from 2000 to 2099 that of its receipt, and all its readings; whether it did."""
-    if OUT_OF_RANGE not in (fault_of(payload["timestamp"]) or ""):
+    if "timestamp" not in payload or OUT_OF_RANGE not in (fault_of(payload["timestamp"]) or ""):
         return False
     payload["timestamp"] = at
     for value in payload.get("meterValue") or ():
@@ -360,7 +364,9 @@ def raise_negative(payload: dict[str, Any], fault: Fault) -> bool:
 
 def trim_ids(payload: dict[str, Any], _fault: Fault) -> bool:
     """Takes blanks and braces out of a transaction's id; whether it had some."""
-    info = payload["transactionInfo"]
+    info = payload.get("transactionInfo")
+    if info is None:
+        return False
     had = info["transactionId"]
     info["transactionId"] = re.sub(r"[\s{}]", "", had)
     return bool(had != info["transactionId"])
@@ -394,19 +400,10 @@ CHANGES: dict[str, Callable[[dict[str, Any], Fault], bool]] = {
 def part_readings(payload: dict[str, Any]) -> list[dict[str, Any]]:
     """An Ended event with more readings than a message may have as several events: its number and those behind it, the
     last of them the end. Any other message as it is."""
-    values = payload.get("meterValue") or []
     count = sum(1 for _ in list_counted(payload))
     if count <= MOST_READINGS or payload.get("eventType") != "Ended":
         return [payload]
-    pieces: list[list[Any]] = [[]]
-    size = 0
-    for value in values:
-        own = sum(1 for _ in list_counted({"meterValue": [value]}))
-        if size + own > MOST_READINGS:
-            pieces.append([])
-            size = 0
-        pieces[-1].append(value)
-        size += own
+    pieces = part_values(payload["meterValue"])
     first = int(payload["seqNo"])
     found = []
     for place, piece in enumerate(pieces):
@@ -414,6 +411,24 @@ def part_readings(payload: dict[str, Any]) -> list[dict[str, Any]]:
         number = Number(first + place)
         found.append(payload | {"eventType": kind, "seqNo": number, "meterValue": piece})
     return found
+
+
+def part_values(values: Iterable[dict[str, Any]]) -> list[list[dict[str, Any]]]:
+    """Meter values in pieces, each with at most as many readings as a message may have."""
+    pieces, size = [list[dict[str, Any]]()], 0
+    for value in values:
+        own: dict[str, Any] | None = None
+        for sampled in value["sampledValue"]:
+            is_counted = measurand_of(sampled) in (IMPORT, EXPORT)
+            if is_counted and size == MOST_READINGS:
+                pieces.append([])
+                own, size = None, 0
+            if own is None:
+                own = value | {"sampledValue": []}
+                pieces[-1].append(own)
+            own["sampledValue"].append(sampled)
+            size += is_counted
+    return pieces
 
 
 def write_comment(faults: Iterable[str], station: str, message: str) -> bytes:

@@ -157,7 +157,7 @@ def settle_parts(store: Database, values: dict[str, Any]) -> int:
 
 CORRECTIONS = """
 select site, closing, at, day, station, transaction_id, starts, up, down, export_up, export_down, net, first_line,
-    last_line
+    last_line, estimated, findings, holds
 from correction
 where site = :site and at >= :since
 order by at, station, transaction_id, starts

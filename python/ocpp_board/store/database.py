@@ -31,7 +31,7 @@ except ModuleNotFoundError:
     FAULTS, PASSING = (sqlite3.Error,), (sqlite3.OperationalError,)
 
 HERE = Path(__file__).parent
-VERSION = 2
+VERSION = 3
 # The files of the schema, in the order in which they are run.
 SOURCES = (
     "schema.sql days.sql gateway.sql web.sql views.sql finding_views.sql days_views.sql".split()

@@ -36,13 +36,6 @@ select cast(:station as text), coalesce(max(number), 0) + 1, :transaction_id, :s
     :detail, :now, :who, :why
 from adjustment where station = :station
 """
-RESETS = """
-select s.station, s.transaction_id, s.evse, s.down, f.detail, f.first_at from session s
-join finding f on f.station = s.station and f.transaction_id = s.transaction_id
-left join adjustment a on a.station = s.station and a.transaction_id = s.transaction_id
-where s.site = :site and f.kind = 'register reset or exchanged' and a.station is null
-order by s.first_at, s.station, s.transaction_id
-"""
 HOLDS = """
 select kind, detail from hold
 where station = :station and transaction_id = :transaction_id and released_at is null order by kind
@@ -182,11 +175,6 @@ def adjust(store: Database, one: Adjustment, author: Author) -> None:
             who=author.who,
             why=author.why,
         )
-
-
-def propose_exchanges(store: Database, site: str) -> list[Row]:
-    """The sessions whose register was reset, and that nobody adjusted."""
-    return store.fetch(RESETS, site=site)
 
 
 def release(store: Database, station: str, transaction: str, author: Author) -> list[str]:

@@ -31,16 +31,23 @@ create view session_run as
         /*postgresql lateral unnest(string_to_array(ltrim(s.gaps || ' -'), ' ')) with ordinality as g(value, place)*/
     where s.events > 0;
 
--- Each transaction of an EVSE that has readings, with what its register read last in the one before it.
+-- Each transaction of an EVSE that has readings beside the one before it there.
 create view evse_step as
-    select site, station, transaction_id, evse, first_at, first_register,
-        lag(last_register) over (partition by site, station, evse order by first_at, transaction_id) as before_register
-    from session
-    where evse <> 0 and events > 0 and first_register is not null;
+    select s.site, s.station, s.transaction_id, s.began, s.last_day, s.first_at, s.first_register, s.last_register,
+        b.transaction_id as before_id, b.ended as before_ended, b.last_at as before_last_at,
+        b.first_register as before_first, b.last_register as before_last
+    from session s join session b on b.station = s.station and b.transaction_id = (
+        select l.transaction_id from session l
+        where l.site = s.site and l.station = s.station and l.evse = s.evse and l.events > 0
+            and l.first_register is not null
+            and l.first_at <= s.first_at and (l.first_at < s.first_at or l.transaction_id < s.transaction_id)
+        order by l.first_at desc, l.transaction_id desc limit 1)
+    where s.evse <> 0 and s.events > 0 and s.first_register is not null;
 
 -- Each transaction of an EVSE that has no end beside the one after it.
 create view evse_next as
-    select s.site, s.station, s.transaction_id, s.evse, s.last_at, n.transaction_id as next_id, n.first_at as next_at
+    select s.site, s.station, s.transaction_id, s.began, s.last_day, s.first_at, s.last_at,
+        n.transaction_id as next_id, n.first_at as next_at
     from session s join session n on n.station = s.station and n.transaction_id = (
         select l.transaction_id from session l
         where l.site = s.site and l.station = s.station and l.evse = s.evse and l.events > 0
@@ -48,76 +55,70 @@ create view evse_next as
         order by l.first_at, l.transaction_id limit 1)
     where s.ended is null and s.evse <> 0 and s.events > 0;
 
--- How far the register of an EVSE rose or fell from one transaction to the next, where the one before was over: it
--- rose by 10 Wh at least, and by more than 100 Wh a day, which a cabinet may take, and the one before has its end; or
--- it fell by 1 kWh at least, and does not
--- begin at 0 in each transaction. Energies are also there as texts of their watt-hours: eleven digits behind a 1.
-create view evse_change as
-    select s.site, s.station, s.transaction_id, s.first_at, b.transaction_id as before_id,
-        s.first_register - s.before_register as mwh,
-        cast(100000000000 + (s.before_register + 500) / 1000 as text) as had,
-        cast(100000000000 + (s.first_register + 500) / 1000 as text) as has,
-        cast(100000000000 + (abs(s.first_register - s.before_register) + 500) / 1000 as text) as difference
-    from evse_step s join session b on b.station = s.station and b.transaction_id = (
-        select l.transaction_id from session l
-        where l.site = s.site and l.station = s.station and l.evse = s.evse and l.events > 0
-            and l.first_register is not null
-            and l.first_at <= s.first_at and (l.first_at < s.first_at or l.transaction_id < s.transaction_id)
-        order by l.first_at desc, l.transaction_id desc limit 1)
-    where s.first_at >= b.last_at
-        and (b.ended is not null and s.first_register - s.before_register >= 10000
-            and s.first_register - s.before_register > 100000
-            * (/*sqlite julianday(s.first_at) - julianday(b.last_at)*/
-            /*postgresql extract(epoch from s.first_at - b.last_at) / 86400*/)
-        or s.before_register - s.first_register >= 1000000 and not (s.first_register < 1000 and b.first_register < 1000));
+-- Each transaction of an EVSE whose register does not go on from the one before it. It rose between them, where the one
+-- before has its end, by 10 Wh at least and by more than 100 Wh a day, which a cabinet may take; it fell by 1 kWh at
+-- least, and does not begin at 0 in each; or the two overlap, and have energy of one register. `wh`: by how much.
+create view evse_doubt as
+    select site, station, transaction_id, began, last_day, first_at, before_id,
+        case when first_at < before_last_at then 'sessions overlap'
+            when first_register > before_last then 'register rose between sessions'
+            else 'meter exchanged between sessions' end as kind,
+        (before_last + 500) / 1000 as had_wh, (first_register + 500) / 1000 as has_wh,
+        (case when first_at >= before_last_at then abs(first_register - before_last)
+            when last_register < before_last then last_register - first_register
+            else before_last - first_register end + 500) / 1000 as wh
+    from evse_step
+    where first_at < before_last_at
+            and (first_register > before_first or first_register = before_first and first_register >= 1000)
+            and first_register < before_last - 10000 and last_register > first_register + 10000
+        or first_at >= before_last_at and before_ended is not null and first_register - before_last >= 10000
+            and first_register - before_last > 100000
+            * (/*sqlite julianday(first_at) - julianday(before_last_at)*/
+            /*postgresql extract(epoch from first_at - before_last_at) / 86400*/)
+        or first_at >= before_last_at and before_last - first_register >= 1000000
+            and not (first_register < 1000 and before_first < 1000);
 
--- Each transaction of an EVSE that begins while the one before it runs, where both have energy of one register: by how
--- much they overlap.
-create view evse_overlap as
-    select s.site, s.station, s.transaction_id, s.first_at, b.transaction_id as before_id,
-        case when s.last_register < b.last_register then s.last_register else b.last_register end
-            - s.first_register as mwh
-    from session s join session b on b.station = s.station and b.transaction_id = (
-        select l.transaction_id from session l
-        where l.site = s.site and l.station = s.station and l.evse = s.evse and l.events > 0
-            and l.first_register is not null
-            and l.first_at <= s.first_at and (l.first_at < s.first_at or l.transaction_id < s.transaction_id)
-        order by l.first_at desc, l.transaction_id desc limit 1)
-    where s.evse <> 0 and s.events > 0 and s.first_at < b.last_at
-        and (s.first_register > b.first_register or s.first_register = b.first_register and s.first_register >= 1000)
-        and s.first_register < b.last_register - 10000 and s.last_register > s.first_register + 10000;
-
--- Each transaction beside the one before it of the same station, at another EVSE.
-create view station_step as
-    select site, station, transaction_id, evse, first_at, last_at, first_register, last_register, peak_w,
-        lag(transaction_id) over earlier as before_id, lag(evse) over earlier as before_evse,
-        lag(first_at) over earlier as before_first_at, lag(last_at) over earlier as before_last_at,
-        lag(first_register) over earlier as before_first, lag(last_register) over earlier as before_last
-    from session
-    where evse <> 0 and events > 0 and first_register is not null
-    window earlier as (partition by site, station order by first_at, transaction_id);
-
--- Transactions of two EVSEs that ran at the same time with registers of one meter: the second one begins within what the
--- first one reads, and one of them ends within what the other one reads.
+-- Transactions of two EVSEs of a station, one after the other, that ran at the same time with registers of one meter:
+-- the second one begins within what the first one reads, and one of them ends within what the other one reads.
 create view one_meter as
-    select site, station, transaction_id, before_id, first_at from station_step
-    where evse <> before_evse and first_at < before_last_at and first_register > before_first + 10000
-        and first_register < before_last - 10000 and last_register > first_register + 10000
-        and (last_at <= before_last_at and last_register <= before_last
-            or last_at >= before_last_at and last_register >= before_last);
+    select s.site, s.station, s.transaction_id, s.began, s.last_day, s.first_at, b.transaction_id as before_id,
+        b.site as before_site, b.began as before_began, b.last_day as before_last_day, b.first_at as before_first_at
+    from session s join session b on b.station = s.station and s.first_at >= b.first_at and s.first_at < b.last_at
+    where b.transaction_id = (
+            select l.transaction_id from session l
+            where l.station = s.station and l.site || '' = s.site and l.evse <> 0 and l.events > 0
+                and l.first_register is not null
+                and l.first_at <= s.first_at and (l.first_at < s.first_at or l.transaction_id < s.transaction_id)
+            order by l.first_at desc, l.transaction_id desc limit 1)
+        and s.evse <> 0 and s.events > 0 and s.first_register is not null and s.evse <> b.evse
+        and s.first_register > b.first_register + 10000 and s.first_register < b.last_register - 10000
+        and s.last_register > s.first_register + 10000
+        and (s.last_at <= b.last_at and s.last_register <= b.last_register
+            or s.last_at >= b.last_at and s.last_register >= b.last_register);
 
--- The greatest power of each transaction beside that of others of its station: `usual` is what nine of ten of at least
--- twenty do not exceed.
+-- The greatest power of each transaction beside that of those next to it at its station, the 20 before it and the 20
+-- behind it, of which there are 19 at least: `usual` is what nine of ten of them do not exceed, where it is less than
+-- half of this one's, and 11 kW less; null where it is not.
 create view power_step as
-    select p.site, p.station, p.transaction_id, p.first_at, p.peak_w, u.usual
-    from session p join (
-        select site, station, max(peak_w) as usual, max(sessions) as sessions from (
-            select site, station, peak_w, percent_rank() over (partition by site, station order by peak_w) as place,
-                count(*) over (partition by site, station) as sessions
-            from session where events > 0 and peak_w > 0) r
-        where place <= 0.9 group by site, station) u on u.site = p.site and u.station = p.station
-    join station t on t.station = p.station and t.most_kw is null
-    where p.events > 0 and u.sessions >= 20 and p.peak_w > 2 * u.usual and p.peak_w > u.usual + 11000;
+    select p.site, p.station, p.transaction_id, p.began, p.last_day, p.first_at, p.peak_w, (
+        select case when count(*) >= 19 and 10 * sum(o.is_near) <= count(*)
+            then max(case when o.is_near = 0 then o.peak_w end) end
+        from (select l.peak_w, case when p.peak_w > 2 * l.peak_w and p.peak_w > l.peak_w + 11000 then 0 else 1 end
+                as is_near
+            from (select n.peak_w from (select b.peak_w from session b where b.station = p.station
+                    and b.first_at < p.first_at and b.site || '' = p.site and b.events > 0 and b.peak_w > 0
+                    order by b.first_at desc limit 20) n
+                union all
+                select n.peak_w from (select a.peak_w from session a where a.station = p.station
+                    and a.first_at > p.first_at and a.site || '' = p.site and a.events > 0 and a.peak_w > 0
+                    order by a.first_at limit 20) n) l) o) as usual
+    from session p join station t on t.station = p.station and t.most_kw is null
+    where p.events > 0 and p.peak_w > 11000 and 5 > (
+        select count(*) from (
+            select 1 as one from (select b.peak_w from session b where b.station = p.station
+                and b.first_at < p.first_at and b.site || '' = p.site and b.events > 0 and b.peak_w > 0
+                order by b.first_at desc limit 20) n
+            where p.peak_w <= 2 * n.peak_w or p.peak_w <= n.peak_w + 11000 limit 5) f);
 
 -- Each number that a transaction lacks and that came in a transaction of another EVSE at the same time, with which it
 -- has none in common: how many numbers of a gap a run of the other one has.
@@ -137,48 +138,59 @@ create view other_counter as
         where a.station = s.station and a.transaction_id = s.transaction_id
             and b.station = o.station and b.transaction_id = o.transaction_id);
 
--- What is doubtful between transactions: the register of an EVSE rose or began anew from one to the next, two ran at the
--- same time with the same energy, a later one began before an end came, one had more power than others, or what was
--- refused of one waits for a decision.
-create view evse_finding as
-    select site, station, transaction_id,
-        case when mwh > 0 then 'register rose between sessions' else 'meter exchanged between sessions' end as kind,
-        1 as times, first_at,
-        case when mwh > 0 then
-            coalesce(nullif(ltrim(substr(difference, 2, 2) || ',' || substr(difference, 4, 3) || ','
-            || substr(difference, 7, 3), '0,'), ''), '0') || '.' || substr(difference, 10, 3)
-            || ' kWh between ' || before_id || ' and ' || transaction_id
-        else coalesce(nullif(ltrim(substr(had, 2, 2) || ',' || substr(had, 4, 3) || ','
-            || substr(had, 7, 3), '0,'), ''), '0') || '.' || substr(had, 10, 3)
-            || ' kWh at the end of ' || before_id || ', '
-            || coalesce(nullif(ltrim(substr(has, 2, 2) || ',' || substr(has, 4, 3) || ','
-            || substr(has, 7, 3), '0,'), ''), '0') || '.' || substr(has, 10, 3) || ' kWh here: '
-            || coalesce(nullif(ltrim(substr(difference, 2, 2) || ',' || substr(difference, 4, 3) || ','
-            || substr(difference, 7, 3), '0,'), ''), '0') || '.' || substr(difference, 10, 3) || ' kWh less'
-        end as detail
-    from evse_change
+-- What is doubtful of transactions: in one of them, or between them (the register of an EVSE rose or began anew from
+-- one to the next, two ran at the same time with the same energy, a later one began before an end came, one had more
+-- power than others), or what was refused of one waits for a decision. `began_at` and `last_day` are the transaction's:
+-- by its last day, the site, or the station and its id, only those rows are read that are asked for.
+create view session_finding as
+    select s.site, f.station, f.transaction_id, f.kind, f.times, f.first_at, f.detail,
+        coalesce(s.began, s.first_at) as began_at, s.last_day
+    from finding f join session s on s.station = f.station and s.transaction_id = f.transaction_id
     union all
-    select site, station, transaction_id, 'no end, and a later session began', 1, next_at, next_id || ' began'
+    select site, station, transaction_id, kind, 1, first_at,
+        case when kind = 'meter exchanged between sessions' then
+            /*sqlite printf('%,d.%03d', had_wh / 1000, had_wh % 1000)*/
+            /*postgresql to_char(had_wh / 1000.0, 'FM999,999,990.000')*/
+            || ' kWh at the end of ' || before_id || ', '
+            || /*sqlite printf('%,d.%03d', has_wh / 1000, has_wh % 1000)*/
+            /*postgresql to_char(has_wh / 1000.0, 'FM999,999,990.000')*/ || ' kWh here: '
+        else '' end
+        || /*sqlite printf('%,d.%03d', wh / 1000, wh % 1000)*/ /*postgresql to_char(wh / 1000.0, 'FM999,999,990.000')*/
+        || case kind when 'sessions overlap' then ' kWh also in ' || before_id
+            when 'register rose between sessions' then ' kWh between ' || before_id || ' and ' || transaction_id
+            else ' kWh less' end,
+        coalesce(began, first_at), last_day
+    from evse_doubt
+    union all
+    select site, station, transaction_id, 'no end, and a later session began', 1, next_at, next_id || ' began',
+        coalesce(began, first_at), last_day
     from evse_next where next_at >= last_at
     union all
-    select site, station, transaction_id, 'sessions overlap', 1, first_at,
-        coalesce(nullif(ltrim(substr(digits, 2, 2) || ',' || substr(digits, 4, 3) || ','
-            || substr(digits, 7, 3), '0,'), ''), '0') || '.' || substr(digits, 10, 3) || ' kWh also in ' || before_id
-    from (select o.*, cast(100000000000 + (mwh + 500) / 1000 as text) as digits from evse_overlap o) o
+    select site, station, transaction_id, 'two EVSEs with one meter', 1, first_at, 'with ' || before_id,
+        coalesce(began, first_at), last_day
+    from one_meter
     union all
-    select site, station, transaction_id, 'two EVSEs with one meter', 1, first_at, 'with ' || before_id from one_meter
-    union all
-    select site, station, before_id, 'two EVSEs with one meter', count(*), min(first_at), 'with ' || min(transaction_id)
-    from one_meter group by site, station, before_id
+    select before_site, station, before_id, 'two EVSEs with one meter', 1, first_at, 'with ' || transaction_id,
+        coalesce(before_began, before_first_at), before_last_day
+    from one_meter
     union all
     select site, station, transaction_id, 'more power than before', 1, first_at,
-        ((peak_w + 500) / 1000) || ' kW, and at most ' || ((usual + 500) / 1000) || ' kW in nine of ten other sessions'
-    from power_step
+        ((peak_w + 500) / 1000) || ' kW, and at most ' || ((usual + 500) / 1000) || ' kW in nine of ten other sessions',
+        coalesce(began, first_at), last_day
+    from power_step where usual is not null
     union all
-    select s.site, r.station, r.transaction_id, 'refused messages wait', count(*), min(r.first_at),
-        'the first: ' || min(r.cause)
-    from refusal r join session s on s.station = r.station and s.transaction_id = r.transaction_id
-    where r.decision = '' and s.events > 0 group by s.site, r.station, r.transaction_id;
+    select s.site, s.station, s.transaction_id, 'refused messages wait', (
+            select count(*) from refusal r
+            where r.station = s.station and r.transaction_id = s.transaction_id and r.decision = ''), (
+            select min(r.first_at) from refusal r
+            where r.station = s.station and r.transaction_id = s.transaction_id and r.decision = ''), (
+            select 'the first: ' || min(r.cause) from refusal r
+            where r.station = s.station and r.transaction_id = s.transaction_id and r.decision = ''),
+        coalesce(s.began, s.first_at), s.last_day
+    from session s
+    where s.events > 0 and exists (
+        select 1 from refusal r
+        where r.station = s.station and r.transaction_id = s.transaction_id and r.decision = '');
 
 -- Where the register of an EVSE rose from one of its MeterValues to the next while no transaction was there.
 create view outside_rise as
@@ -213,24 +225,20 @@ create view station_finding as
     group by s.site, s.station
     union all
     select site, station, 'numbers in steps', count(*), min(first_at),
-        count(*) || ' sessions ' || min(substr(state, 11)) from session
-    where events > 0 and missing > 0 and state like 'complete, numbers in steps%'
+        count(*) || ' sessions ' || min(substr(state, 20)) from session
+    where events > 0 and missing > 0 and state like 'messages complete, numbers in steps%'
     group by site, station
     union all
     select t.site, o.station, 'energy outside sessions', o.times, o.first_at,
-        coalesce(nullif(ltrim(substr(digits, 2, 2) || ',' || substr(digits, 4, 3) || ','
-            || substr(digits, 7, 3), '0,'), ''), '0') || '.' || substr(digits, 10, 3) || ' kWh at EVSE ' || o.evse
+        /*sqlite printf('%,d.%03d', wh / 1000, wh % 1000)*/
+            /*postgresql to_char(wh / 1000.0, 'FM999,999,990.000')*/ || ' kWh at EVSE ' || o.evse
     from (select station, evse, count(*) as times, min(at) as first_at,
-            cast(100000000000 + (cast(sum(mwh) as bigint) + 500) / 1000 as text) as digits
+            (cast(sum(mwh) as bigint) + 500) / 1000 as wh
         from outside_rise group by station, evse) o
     join station t on t.station = o.station;
 
--- Everything that is doubtful: of one transaction, between transactions of an EVSE, and of a station. The transaction is
--- empty where a finding is of a station.
+-- Everything that is doubtful: of transactions, and of a station, where the transaction is empty.
 create view all_finding as
-    select s.site, f.station, f.transaction_id, f.kind, f.times, f.first_at, f.detail
-    from finding f join session s on s.station = f.station and s.transaction_id = f.transaction_id
-    union all
-    select site, station, transaction_id, kind, times, first_at, detail from evse_finding
+    select site, station, transaction_id, kind, times, first_at, detail from session_finding
     union all
     select site, station, '', kind, times, first_at, detail from station_finding;

@@ -32,7 +32,7 @@ SENT = [
     for name in ("stopped_reason", "sent_id", "token", "token_type", "remote_start_id", "signed")
 ]
 LAST_AT = SESSION.index("last_at")
-PART = "starts up down export_up export_down on_board measured shared numbers_missing".split()
+PART = "starts up down export_up export_down on_board measured shared by_values numbers_missing".split()
 FINDING = "kind times first_at detail".split()
 OF_SESSION = "station = :station and transaction_id = :transaction"
 # Texts of a station that sends too much which are kept each; further ones are one row.
@@ -293,6 +293,9 @@ class Warm:
         """`most`: about how many bytes are kept."""
         self.most, self.size = most, 0
         self.kept = OrderedDict[Key, Kept]()
+        # What is mended in messages, by site, and until when that is kept.
+        self.mends: dict[str, Any] = {}
+        self.mends_until = 0.0
 
     def take(self, key: Key, lines: int, changed: int | str | None) -> Kept | None:
         """Takes out what is kept of a transaction; none where something else is stored."""
@@ -334,7 +337,7 @@ class Written(NamedTuple):
 
 
 class Writer:
-    """Collects what changed of transactions, and writes it, each table by one statement in PostgreSQL."""
+    """Collects what changed of transactions, and writes it, in PostgreSQL by one statement."""
 
     def __init__(self, store: Database) -> None:
         self.store, self.at = store, datetime.now(timezone.utc)
@@ -364,14 +367,14 @@ class Writer:
     def write(self) -> None:
         """Writes what was collected."""
         lines = [(*key, *line) for key, one in self.rows.items() for line in one.accepted]
-        insert_rows(self.store, "line", LINE, lines)
+        inserts = [Insert("line", LINE, lines)]
         hour = count_hours(self.at)
         sessions = [
             (*key, one.held.site, self.at, hour, find_day(one.session), *clean_session(one.session))
             for key, one in self.rows.items()
         ]
         columns = [*KEYS, "site", "changed_at", "changed_hour", "last_day", *SESSION]
-        write_rows(self.store, "session", columns, KEYS, sessions, compared=SESSION)
+        inserts.append(make_insert("session", columns, KEYS, sessions, compared=SESSION))
         unknown = sorted(key for key, one in self.rows.items() if one.held.kept is None)
         parts = {key: one.parts for key, one in self.rows.items()}
         findings = {key: one.findings for key, one in self.rows.items()}
@@ -380,7 +383,8 @@ class Writer:
             for key, one in self.rows.items():
                 if kept := one.held.kept:
                     before[key] = kept.parts if table == "part" else kept.findings
-            write_differences(self.store, table, columns, before, rows)
+            inserts.append(remove_gone(self.store, table, columns, before, rows))
+        insert_all(self.store, [one for one in inserts if one.rows])
         if self.empty:
             delete_each(self.store, "session", self.empty)
         self.rows, self.empty = {}, []
@@ -418,56 +422,68 @@ def write_json(columns: Sequence[str], rows: Iterable[Values]) -> str:
     return json.dumps([dict(zip(columns, row)) for row in rows], default=datetime.isoformat)
 
 
-def insert_rows(
-    store: Database, table: str, columns: Sequence[str], rows: Sequence[Values], more: str = ""
-) -> None:
-    """Inserts rows, each with the values of these columns; without `more` one that is there fails."""
-    if not rows:
-        return
-    names, marks = ", ".join(columns), ", ".join("?" * len(columns))
-    if isinstance(store, SqliteDatabase):
-        store.execute_rows(f"insert into {table} ({names}) values ({marks}) {more}", rows)
-    elif table == "line":
-        # PostgreSQL has a type `line` of its own, so the table's can't be named here.
-        store.execute(
-            f"""insert into line ({names}) select {names} from json_to_recordset(:rows) as r (station text,
-            transaction_id text, number int, received timestamptz, line text, who text, origin text, why text)""",
-            rows=write_json(columns, rows),
-        )
-    else:
-        store.execute(
-            f"""insert into {table} ({names}) select {names} from json_populate_recordset(null::{table}, :rows)
-            {more}""",
-            rows=write_json(columns, rows),
-        )
+class Insert(NamedTuple):
+    """Rows of a table with the values of these columns. Without `more` one that is there fails."""
+
+    table: str
+    columns: Sequence[str]
+    rows: Sequence[Values]
+    more: str = ""
 
 
-def write_rows(
-    store: Database,
+def make_insert(
     table: str,
     columns: Sequence[str],
     keys: Sequence[str],
     rows: Sequence[Values],
     compared: Sequence[str] = (),
-) -> None:
-    """Inserts rows, or writes their columns beside the keys where they are there. `compared`: the columns of which one
-    has to differ for that."""
+) -> Insert:
+    """Rows that are inserted, or whose columns beside the keys are written where they are there. `compared`: the
+    columns of which one has to differ for that."""
     changes = ", ".join(f"{name} = excluded.{name}" for name in columns if name not in keys)
     more = f"on conflict ({', '.join(keys)}) do update set {changes}"
     if compared:
         had, has = (", ".join(f"{of}.{name}" for name in compared) for of in (table, "excluded"))
         more += f" where ({had}) is distinct from ({has})"
-    insert_rows(store, table, columns, rows, more)
+    return Insert(table, columns, rows, more)
 
 
-def write_differences(
+def insert_all(store: Database, inserts: Sequence[Insert]) -> None:
+    """Writes rows of tables, each of which comes once: in PostgreSQL by one statement, since each one costs more than
+    its rows."""
+    if isinstance(store, SqliteDatabase):
+        for one in inserts:
+            names, marks = ", ".join(one.columns), ", ".join("?" * len(one.columns))
+            statement = f"insert into {one.table} ({names}) values ({marks}) {one.more}"
+            store.execute_rows(statement, one.rows)
+        return
+    if inserts:
+        *first, last = map(write_insert, inserts)
+        before = ", ".join(f"w{n} as ({one})" for n, one in enumerate(first))
+        values = {f"{one.table}_rows": write_json(one.columns, one.rows) for one in inserts}
+        store.execute(f"with {before} {last}" if before else last, **values)
+
+
+def write_insert(one: Insert) -> str:
+    """The statement that inserts rows in PostgreSQL."""
+    names = ", ".join(one.columns)
+    made = f"json_populate_recordset(null::{one.table}, :{one.table}_rows)"
+    if one.table == "line":
+        # PostgreSQL has a type `line` of its own, so the table's can't be named here.
+        made = """json_to_recordset(:line_rows) as r (station text, transaction_id text, number int,
+            received timestamptz, line text, who text, origin text, why text)"""
+    return f"insert into {one.table} ({names}) select {names} from {made} {one.more}"
+
+
+def remove_gone(
     store: Database,
     table: str,
     columns: Sequence[str],
     before: dict[Key, dict[Any, Values]],
     own: dict[Key, Sequence[Values]],
-) -> None:
-    """Writes the rows of transactions in `part` or `finding`: those that are not there or differ; others go."""
+) -> Insert:
+    """Removes rows of transactions in `part` or `finding` that are there no more, and gives those that are not there or
+    differ."""
     keys = [*KEYS, columns[0]]
     more, gone = list[Values](), list[Values]()
     for key, rows in own.items():
@@ -476,7 +492,7 @@ def write_differences(
         gone += [(*key, first) for first in had.keys() - {one[0] for one in rows}]
     if gone:
         delete_rows(store, table, keys, gone)
-    write_rows(store, table, [*KEYS, *columns], keys, more)
+    return make_insert(table, [*KEYS, *columns], keys, more)
 
 
 def delete_rows(store: Database, table: str, keys: Sequence[str], rows: Sequence[Values]) -> None:

@@ -21,6 +21,7 @@ create table site (
     most_open int not null default 0,           -- open transactions of a station, bytes a day, and messages a second
     most_bytes bigint not null default 0,       -- at a gateway, over a minute; 0: any number
     most_rate int not null default 0,
+    mends text not null default '',             -- the faults that are mended in what its stations send
     first_settled_day date,
     place int not null default 0                -- the order of sites on pages
 );
@@ -154,7 +155,8 @@ create index session_site_first on session (site, first_at);
 create index session_site_last on session (site, last_day, first_at);
 create index session_lacking on session (site, station, first_at) where not complete;
 -- A settlement period of a transaction. `on_board`: a board shows it; `shared`: what it gets if energy around its
--- unmeasured ends is shared by time, net; null where it is measured.
+-- unmeasured ends is shared by time, net; null where it is measured. `by_values`: what MeterValues of its EVSE, or interval
+-- values, say that it took, where its registers don't.
 create table part (
     station text /*postgresql collate "C"*/ not null,
     transaction_id text /*postgresql collate "C"*/ not null,
@@ -166,6 +168,7 @@ create table part (
     on_board boolean not null,
     measured boolean not null,
     shared bigint,
+    by_values bigint,
     numbers_missing boolean not null,
     primary key (station, transaction_id, starts)
 ) /*sqlite without rowid*/ /*postgresql partition by hash (station)*/;

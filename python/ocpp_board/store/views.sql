@@ -36,39 +36,51 @@ create view board_evse as
         cast(sum(export_up) as bigint) as export_up, cast(sum(export_down) as bigint) as export_down
     from session where events > 0 group by site, station, evse;
 
--- The energy of each settlement period of an EVSE, and how it was come by; a board shows those with `on_board`.
+-- The energy of each settlement period of an EVSE, and how it was come by: how many sessions' figures are `estimated`,
+-- and how many of these by values that meters sent beside their registers. A board shows those with `on_board`.
 create view evse_period as
     select s.site, p.station, s.evse, p.starts,
         cast(sum(p.up) as bigint) as up, cast(sum(p.down) as bigint) as down,
         cast(sum(p.export_up) as bigint) as export_up, cast(sum(p.export_down) as bigint) as export_down,
         max(case when p.on_board then 1 else 0 end) as shown,
-        max(case when p.measured then 0 else 1 end) as estimated,
-        cast(coalesce(sum(p.shared), 0) as bigint) as shared,
+        sum(case when p.measured then 0 else 1 end) as estimated,
+        count(case when s.energy_measured <> 'yes' and not p.measured then p.by_values end) as by_values,
+        cast(coalesce(sum(coalesce(case when s.energy_measured <> 'yes' then p.by_values end, p.shared)), 0) as bigint)
+            as shared,
         max(case when p.numbers_missing then 1 else 0 end) as lacks_numbers
     from part p join session s on s.station = p.station and s.transaction_id = p.transaction_id
     group by s.site, p.station, s.evse, p.starts;
 
--- The energy of each settlement period of a station, as its board shows them.
+-- The energy of each settlement period of a station: those that its board shows (`shown`), and those of which only
+-- values beside registers say something.
 create view board_period as
     select s.site, p.station, p.starts,
         cast(sum(p.up) as bigint) as up, cast(sum(p.down) as bigint) as down,
         cast(sum(p.export_up) as bigint) as export_up, cast(sum(p.export_down) as bigint) as export_down,
-        max(case when p.measured then 0 else 1 end) as estimated,
-        cast(coalesce(sum(p.shared), 0) as bigint) as shared,
+        max(case when p.on_board then 1 else 0 end) as shown,
+        sum(case when p.measured then 0 else 1 end) as estimated,
+        count(case when s.energy_measured <> 'yes' and not p.measured then p.by_values end) as by_values,
+        cast(coalesce(sum(coalesce(case when s.energy_measured <> 'yes' then p.by_values end, p.shared)), 0) as bigint)
+            as shared,
         max(case when p.numbers_missing then 1 else 0 end) as lacks_numbers
     from part p join session s on s.station = p.station and s.transaction_id = p.transaction_id
-    group by s.site, p.station, p.starts having max(case when p.on_board then 1 else 0 end) = 1;
+    group by s.site, p.station, p.starts having max(case when p.on_board then 1 else 0 end) = 1
+        or count(case when s.energy_measured <> 'yes' and not p.measured then p.by_values end) > 0;
 
--- The energy of each settlement period of a site, as its board shows them.
+-- The same of a site.
 create view board_site_period as
     select s.site, p.starts,
         cast(sum(p.up) as bigint) as up, cast(sum(p.down) as bigint) as down,
         cast(sum(p.export_up) as bigint) as export_up, cast(sum(p.export_down) as bigint) as export_down,
-        max(case when p.measured then 0 else 1 end) as estimated,
-        cast(coalesce(sum(p.shared), 0) as bigint) as shared,
+        max(case when p.on_board then 1 else 0 end) as shown,
+        sum(case when p.measured then 0 else 1 end) as estimated,
+        count(case when s.energy_measured <> 'yes' and not p.measured then p.by_values end) as by_values,
+        cast(coalesce(sum(coalesce(case when s.energy_measured <> 'yes' then p.by_values end, p.shared)), 0) as bigint)
+            as shared,
         max(case when p.numbers_missing then 1 else 0 end) as lacks_numbers
     from part p join session s on s.station = p.station and s.transaction_id = p.transaction_id
-    group by s.site, p.starts having max(case when p.on_board then 1 else 0 end) = 1;
+    group by s.site, p.starts having max(case when p.on_board then 1 else 0 end) = 1
+        or count(case when s.energy_measured <> 'yes' and not p.measured then p.by_values end) > 0;
 
 -- The energy of each period of an EVSE in kWh, with the day and the time that clocks at the site show at its start.
 create view energy as
@@ -81,7 +93,8 @@ create view energy as
         round(e.up / 1000000.0, 6) as up_kwh, round(e.down / 1000000.0, 6) as down_kwh,
         round(e.export_up / 1000000.0, 6) as export_up_kwh, round(e.export_down / 1000000.0, 6) as export_down_kwh,
         round((e.up - e.down - e.export_up + e.export_down) / 1000000.0, 6) as net_kwh,
-        case when e.estimated = 1 then 'estimated' else 'measured' end as figure,
+        case when e.estimated = 0 then 'measured' when e.by_values = e.estimated then 'estimated by meter values'
+            else 'estimated' end as figure,
         round(e.shared / 1000000.0, 6) as shared_kwh,
         case when e.lacks_numbers = 1 then 'yes' else 'no' end as lacks_numbers
     from evse_period e join site i on i.site = e.site
@@ -92,10 +105,11 @@ create view energy as
 -- something came lately.
 create view lacking as
     select s.site, s.station, s.transaction_id, s.sent_id, s.evse, s.state, s.missing, s.gaps, s.first_at, s.last_at,
-        s.received_until, s.changed_at, s.up - s.down as imported, coalesce(s.received_until, s.last_at) as heard_at
+        s.received_until, s.changed_at, s.up - s.down as imported, coalesce(s.received_until, s.last_at) as heard_at,
+        s.energy_measured
     from session s
     left join rule_settled r on r.station = s.station and r.transaction_id = s.transaction_id
-    where s.events > 0 and not s.complete and s.state not like 'complete%' and r.station is null;
+    where s.events > 0 and not s.complete and s.state not like 'messages complete%' and r.station is null;
 
 -- When something was heard of each planned station last, and the last moment that a transaction of it names.
 create view silent_station as

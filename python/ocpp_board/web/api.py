@@ -38,6 +38,7 @@ from ocpp_board.writers.bills import (
 )
 from ocpp_board.writers.calendar import find_calendar
 from ocpp_board.writers.pages.reader import read_gaps
+from ocpp_board.writers.tables import ESTIMATED, name_figure
 from ocpp_board.writers.tokens import TOKENS, hide_tokens
 
 # Rows of a page, unless asked for and at most; stations that one id is looked for at, and lines of a transaction.
@@ -66,7 +67,7 @@ select s.station, s.transaction_id, s.site, s.sent_id, s.evse, s.events, s.first
 from session s join session_state t on t.station = s.station and t.transaction_id = s.transaction_id
 join adjusted_session a on a.station = s.station and a.transaction_id = s.transaction_id
 """
-FOUND = "select transaction_id, kind from all_finding where station = :station"
+FOUND = "select transaction_id, kind from session_finding where station = :station"
 HELD = "select transaction_id, kind from hold where station = :station and released_at is null"
 
 Json = dict[str, Any]
@@ -270,7 +271,8 @@ def read_periods(asked: Request, site: Any, begin: datetime, end: datetime) -> l
         )
     }
     rows = asked.store.fetch(
-        "select station, starts, up, down, export_up, export_down, estimated, lacks_numbers from board_period "
+        "select station, starts, up, down, export_up, export_down, estimated, by_values, shared, lacks_numbers "
+        "from board_period "
         "where site = :site and starts >= :begin and starts < :until order by starts, station",
         **values,
     )
@@ -286,7 +288,8 @@ def read_periods(asked: Request, site: Any, begin: datetime, end: datetime) -> l
                 "seconds": site.period,
                 "day": calendar.day(row.starts).isoformat(),
                 **write_flow(read_flow(row)),
-                "figure": "estimated" if row.estimated else "measured",
+                "figure": name_figure(row.estimated, row.by_values),
+                "estimate": int(row.shared) if row.estimated else None,
                 "lacks_numbers": bool(row.lacks_numbers),
                 **state,
             }
@@ -303,6 +306,7 @@ def write_state(flow: Flow, settled: Any) -> Json:
     return {
         "state": state if is_same else "provisional",
         "corrections": settled.corrections,
+        "settled_figure": "measured" if settled.measured else ESTIMATED,
         **write_flow(read_flow(settled), "settled_"),
     }
 

@@ -33,8 +33,8 @@ from ocpp_board.web.signing import (
     make_form_token,
     make_operator,
 )
+from ocpp_board.writers.pages.context import PageOptions
 from ocpp_board.writers.pages.render import render
-from ocpp_board.writers.tokens import NONE
 
 log = logging.getLogger(__name__)
 
@@ -98,13 +98,18 @@ class Desk:
     `is_plain`: cookies go over plain HTTP, too."""
 
     stores: Stores
-    tokens: str = NONE
+    pages: PageOptions = PageOptions()
     header: str = ""
     proxies: Sequence[ipaddress.IPv4Network | ipaddress.IPv6Network] = ()
     is_plain: bool = False
     sign_ins: SignIns = field(default_factory=SignIns)
     # What signs forms of operators whom a proxy signs in.
     key: str = field(default_factory=secrets.token_urlsafe)
+
+    @property
+    def tokens(self) -> str:
+        """How drivers' tokens are shown."""
+        return self.pages.tokens
 
     @property
     def cookie(self) -> str:

@@ -17,7 +17,7 @@ from ocpp_board.web.desk import (
 )
 from ocpp_board.web.signing import OPERATOR, READER, SignInFault
 from ocpp_board.writers.pages.closing_pages import make_closing_page
-from ocpp_board.writers.pages.context import Context, PageOptions
+from ocpp_board.writers.pages.context import Context
 from ocpp_board.writers.pages.day_book import DayBook
 from ocpp_board.writers.pages.day_pages import make_day_page, make_station_day_page
 from ocpp_board.writers.pages.facts import Site, StationSummary
@@ -34,7 +34,7 @@ from starlette.requests import Request as HttpRequest
 
 LINKS = WebLinks()
 # What is linked from each page, with the role that it needs.
-BAR = (("/", "All sites", READER), ("/operate", "Void, restore or erase", OPERATOR))
+BAR = (("/", "All sites", READER), ("/operate", "Correct or void", OPERATOR))
 
 
 def make_context(asked: Request) -> Context:
@@ -43,7 +43,7 @@ def make_context(asked: Request) -> Context:
     return Context(
         reader,
         LINKS,
-        PageOptions(tokens=asked.desk.tokens),
+        asked.desk.pages,
         DayBook(reader),
         bar=[(href, text) for href, text, role in BAR if asked.operator.may(role)],
         operator=asked.operator.name,
@@ -104,8 +104,9 @@ def show_index(asked: Request) -> Response:
         context = make_context(asked)
         sites = [site for site in context.reader.sites() if asked.operator.sees(site.name)]
         facts = read_sites(context, sites)
-        strays = context.reader.count_strays() if asked.operator.sites is None else 0
-        return show(make_index(context, facts, strays))
+        sees_all = asked.operator.sites is None
+        strays = context.reader.count_strays() if sees_all else 0
+        return show(make_index(context, facts, strays, sees_all))
 
 
 @open_view(READER)

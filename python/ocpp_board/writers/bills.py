@@ -15,7 +15,7 @@ from ocpp_board.errors import UsageError
 from ocpp_board.escapes import csv_cell
 from ocpp_board.limits import MOMENT
 from ocpp_board.messages.bills import TOKENS, Details, Signed, cells_of, write_signed
-from ocpp_board.store.database import Database, Row
+from ocpp_board.store.database import Database, Row, count_days
 
 HEADS = (
     *("start_date_time", "end_date_time", "session_id", "location_id", "station", "evse_uid"),
@@ -32,29 +32,29 @@ HEADS = (
     *("hold", "findings"),
 )
 ZONE = "select zone from site where site = :site"
-SESSIONS = """
-select b.*, s.token, s.token_type, s.remote_start_id, s.signed
+# An index finds those sessions whose last day is not before the month, so nothing is read of earlier ones.
+IN_MONTH = "{0}site = :site and {0}last_day >= :first_day and {1} >= :begin and {1} < :end"
+SESSIONS = f"""
+select b.site, b.station, b.transaction_id, b.sent_id, b.evse, b.began, b.ended, b.complete, b.missing, b.imported,
+    b.exported, b.import_sum, b.export_sum, b.state, b.settled, b.energy_measured, b.first_reading_at,
+    b.last_reading_at, s.token, s.token_type, s.remote_start_id, s.signed
 from bill b join session s on s.station = b.station and s.transaction_id = b.transaction_id
-where b.site = :site and b.at >= :begin and b.at < :end
+where {IN_MONTH.format('b.', 'b.at')}
 order by b.at, b.station, b.transaction_id
 """
 # What is beside sessions, each with its session.
-FINDINGS = """
-select f.station, f.transaction_id, f.kind, f.times, f.detail
-from all_finding f join session s on s.station = f.station and s.transaction_id = f.transaction_id
-where s.site = :site and coalesce(s.began, s.first_at) >= :begin and coalesce(s.began, s.first_at) < :end
-order by f.station, f.transaction_id, f.kind
+FINDINGS = f"""
+select station, transaction_id, kind, times, detail from session_finding where {IN_MONTH.format('', 'began_at')}
+order by station, transaction_id, kind
 """
-HOLDS = """
-select h.station, h.transaction_id, h.kind, h.released_by, h.why
-from hold h join session s on s.station = h.station and s.transaction_id = h.transaction_id
-where h.site = :site and coalesce(s.began, s.first_at) >= :begin and coalesce(s.began, s.first_at) < :end
-order by h.station, h.transaction_id, h.kind
+HOLDS = f"""
+select station, transaction_id, kind, released_by, why from hold where {IN_MONTH.format('', 'began_at')}
+order by station, transaction_id, kind
 """
-ADJUSTMENTS = """
+ADJUSTMENTS = f"""
 select a.station, a.transaction_id, a.kind, a.imported, a.exported, a.detail, a.who, a.why
 from adjustment a join session s on s.station = a.station and s.transaction_id = a.transaction_id
-where s.site = :site and coalesce(s.began, s.first_at) >= :begin and coalesce(s.began, s.first_at) < :end
+where {IN_MONTH.format('s.', 'coalesce(s.began, s.first_at)')}
 order by a.station, a.number
 """
 
@@ -104,10 +104,10 @@ def find_zone(store: Database, site: str) -> ZoneInfo:
 
 
 def bound_month(zone: ZoneInfo, year: int, month: int) -> dict[str, Any]:
-    """The first moment of a month in a zone, and the one behind it."""
+    """The first moment of a month in a zone, and the one behind it; the first day on which sessions of it may end."""
     days = (date(year, month, 1), date(year + month // 12, month % 12 + 1, 1))
     begin, end = (datetime.combine(day, time(), zone).astimezone(timezone.utc) for day in days)
-    return {"begin": begin, "end": end}
+    return {"begin": begin, "end": end, "first_day": count_days(begin)}
 
 
 def read_notes(store: Database, values: Mapping[str, Any]) -> dict[tuple[str, str], Notes]:

@@ -26,7 +26,8 @@ select p.station, s.evse, p.starts, cast(sum(p.up - p.down) as bigint) as import
 from {{source}} p
 join session s on s.station = p.station and s.transaction_id = p.transaction_id
 left join (
-    select distinct station, transaction_id from all_finding where site = :site and kind in ({WRONG})) f
+    select distinct station, transaction_id from session_finding
+    where site = :site and kind in ({WRONG}) and last_day >= :first_day) f
     on f.station = p.station and f.transaction_id = p.transaction_id
 where s.site = :site and p.starts >= :begin and p.starts < :end
 group by p.station, s.evse, p.starts

@@ -6,6 +6,7 @@
     SITE/refused.csv        what was refused, with cause and advice
     SITE/operator.csv       the operators' lines with who, when, why, and the answer
     SITE/mended.csv         the messages that were mended
+    SITE/site_meter.csv     the main meter (EVSE 0 of MeterValues) against the sum of the EVSEs, by period
     SITE/signed/            the first and the last signed value of each transaction that has some
     refused.csv             messages of stations that no site has, and lines that name no station
 
@@ -39,6 +40,7 @@ from ocpp_board.messages.bills import (
     write_signed,
 )
 from ocpp_board.store.database import Database, Row, count_days
+from ocpp_board.store.values import Compared, compare_main, find_main_span
 from ocpp_board.writers.bills import describe_measured
 from ocpp_board.writers.calendar import MOMENT, Calendar, find_calendar
 from ocpp_board.writers.files import name_file
@@ -76,8 +78,11 @@ REFUSED = [
 ]
 OPERATOR = ["time (UTC)", "who", "what", "site", "station", "transaction", "seqNo", "why", "answer"]
 MENDED = ["time (UTC)", "site", "station", "transaction", "seqNo", "mended", "as it came"]
+METER = ["start (UTC)", "site meter (kWh)", "EVSEs (kWh)", "losses (kWh)"]
 REFUSED_ORDER = "order by first_at, station, sent_id, number, cause, what"
 SESSION_ORDER = "order by coalesce(t.place, 0), s.station, s.transaction_id"
+# How the figure of a period was come by, where no register says it.
+ESTIMATED, BY_VALUES = "estimated", "estimated by meter values"
 KINDS = {kind.label: kind for kind in Kind}
 # The places of the kinds of findings: by what they do to figures, the gravest first, and by the kind.
 EFFECTS = [*Effect]
@@ -180,7 +185,8 @@ class TableWriter:
         one.write_transactions()
         one.write_findings()
         one.write_signed()
-        return 3 + one.write_refused() + one.write_operator() + one.write_mended()
+        others = one.write_refused() + one.write_operator() + one.write_mended()
+        return 3 + others + one.write_meter()
 
     def write_strays(self) -> int:
         """Writes what was refused of no site, where there is some, and gives whether there is."""
@@ -194,6 +200,11 @@ class TableWriter:
 def write_utc(at: datetime | None) -> str:
     """The cell of a moment in UTC; empty where it is not known."""
     return at.strftime(MOMENT) if at else ""
+
+
+def write_compared(one: Compared) -> list[Cell]:
+    """The cells of a period of a main meter."""
+    return [write_utc(one.starts), *map(write_kwh, (one.main, one.taken, one.losses))]
 
 
 def write_some(path: Path, heads: Sequence[str], rows: Iterable[Iterable[Cell]]) -> int:
@@ -310,8 +321,9 @@ class SiteTables:
         return self.store.fetch(
             "select starts, cast(sum(up) as bigint) as up, cast(sum(down) as bigint) as down, "
             "cast(sum(export_up) as bigint) as export_up, "
-            "cast(sum(export_down) as bigint) as export_down, max(estimated) as estimated, "
-            "cast(sum(shared) as bigint) as shared, max(lacks_numbers) as lacks_numbers "
+            "cast(sum(export_down) as bigint) as export_down, cast(sum(estimated) as bigint) as estimated, "
+            "cast(sum(by_values) as bigint) as by_values, cast(sum(shared) as bigint) as shared, "
+            "max(lacks_numbers) as lacks_numbers "
             f"from evse_period where site = :site {text} group by starts order by starts",
             site=self.site.site,
             **values,
@@ -324,7 +336,7 @@ class SiteTables:
         text, values = self.span_of_rows(last)
         site = "site" if self.day is None else "site || ''"
         return self.store.fetch(
-            "select evse, starts, up, down, export_up, export_down, estimated, shared, lacks_numbers "
+            "select evse, starts, up, down, export_up, export_down, estimated, by_values, shared, lacks_numbers "
             f"from evse_period where {site} = :site and station = :station {text} order by evse, starts",
             site=self.site.site,
             station=station,
@@ -397,7 +409,7 @@ class SiteTables:
                 continue
             times = write_period(self.calendar, row.starts, seconds)
             figures = write_figures(row.up, row.down, row.export_up, row.export_down)
-            figure = "estimated" if row.estimated else "measured"
+            figure = name_figure(row.estimated, row.by_values)
             lacks = "yes" if row.lacks_numbers else "no"
             yield (f"{front},{times},{figures},{figure},{write_kwh(row.shared)},{lacks},{end}")
 
@@ -567,6 +579,16 @@ class SiteTables:
         )
         return write_some(self.path("mended"), MENDED, map(self.write_mend, rows))
 
+    def write_meter(self) -> int:
+        """Writes the table of the main meter, where it was read, and gives whether it was. Raises OSError."""
+        seconds = self.site.period
+        span = find_main_span(self.store, self.site.site)
+        if span is None:
+            return write_some(self.path("site_meter"), METER, ())
+        begin = span[0] - timedelta(seconds=span[0].timestamp() % seconds)
+        rows = compare_main(self.store, self.site.site, seconds, begin, span[1])
+        return write_some(self.path("site_meter"), METER, map(write_compared, rows))
+
     def write_mend(self, row: Row) -> list[Cell]:
         """The cells of a mended message."""
         number = "" if row.number is None else str(row.number)
@@ -575,8 +597,8 @@ class SiteTables:
 
 
 class PeriodSum(NamedTuple):
-    """The sum of rows of periods of one beginning: how many rows these are, their energies and shares, and how many of
-    them are estimated or lack numbers."""
+    """The sum of rows of periods of one beginning: how many rows these are, their energies and shares, how many figures
+    in them are estimated, how many of these by meter values, and how many rows lack numbers."""
 
     starts: datetime
     rows: int = 0
@@ -585,6 +607,7 @@ class PeriodSum(NamedTuple):
     export_up: int = 0
     export_down: int = 0
     estimated: int = 0
+    by_values: int = 0
     shared: int = 0
     lacks_numbers: int = 0
 
@@ -602,6 +625,7 @@ def add_row(had: Row, row: Row, times: int = 1) -> PeriodSum:
         had.export_up + times * row.export_up,
         had.export_down + times * row.export_down,
         had.estimated + times * row.estimated,
+        had.by_values + times * row.by_values,
         had.shared + times * row.shared,
         had.lacks_numbers + times * row.lacks_numbers,
     )
@@ -762,6 +786,13 @@ def write_figures(up: int, down: int, export_up: int, export_down: int) -> str:
     imported = f"{up},{down},{write_kwh(up)},{write_kwh(down)}"
     exported = f"{export_up},{export_down},{write_kwh(export_up)},{write_kwh(export_down)}"
     return f"{imported},{exported},{write_kwh(up - down - export_up + export_down)}"
+
+
+def name_figure(estimated: int, by_values: int) -> str:
+    """How a figure was come by of which so many parts are estimated, and so many of these by meter values."""
+    if not estimated:
+        return "measured"
+    return BY_VALUES if by_values == estimated else ESTIMATED
 
 
 def is_still(row: Row) -> bool:

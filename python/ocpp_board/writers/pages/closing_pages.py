@@ -7,6 +7,7 @@ from ocpp_board.writers.calendar import Calendar
 from ocpp_board.writers.causes import describe_causes
 from ocpp_board.writers.pages.cells import (
     MARK,
+    UNKNOWN,
     Figure,
     TableRow,
     link,
@@ -15,13 +16,32 @@ from ocpp_board.writers.pages.cells import (
 )
 from ocpp_board.writers.pages.context import Context
 from ocpp_board.writers.pages.facts import Closing, Correction, Settled, Site
+from ocpp_board.writers.pages.sessions import write_measured
+from ocpp_board.writers.tables import ESTIMATED
 
 # Corrections and sessions that a page shows.
 MOST_CORRECTIONS, MOST_SETTLED = 200, 200
 CORRECTIONS = make_columns(
-    "Period", " Station", " Transaction", "Net, kWh", " Lines that made the difference"
+    "Period",
+    " Station",
+    " Transaction",
+    "Net, kWh",
+    " Figure",
+    "Findings",
+    "Holds",
+    " Lines that made the difference",
 )
-SETTLED = make_columns("Transaction", " Station", " Settled", "Net, kWh", "Lines")
+SETTLED = make_columns(
+    "Transaction",
+    " Station",
+    " Settled",
+    "Net, kWh",
+    " Energy measured",
+    "Adjusted, kWh",
+    "Findings",
+    "Holds",
+    "Lines",
+)
 
 
 def make_figures(closing: Closing) -> list[Figure]:
@@ -29,7 +49,7 @@ def make_figures(closing: Closing) -> list[Figure]:
     rows = [
         ("Net energy settled by it", f"{kwh(closing.net)} kWh", False),
         ("Sessions that it looked at", f"{closing.sessions:,}", False),
-        ("Settled, complete", f"{closing.complete:,}", False),
+        ("Settled, messages complete", f"{closing.complete:,}", False),
         ("Settled by rule", f"{closing.by_rule:,}", False),
         ("Corrections", f"{closing.corrections:,}", closing.corrections > 0),
     ]
@@ -50,22 +70,30 @@ def make_correction_row(
         link(links.station(site.name, one.station), one.station),
         link(links.session(site.name, one.station, tx), tx),
         kwh(one.net),
+        ESTIMATED if one.estimated > 0 else "measured",
+        f"{one.findings:,}",
+        f"{one.holds:,}",
         causes,
     ]
     return TableRow(cells, MARK)
 
 
 def make_settled_row(context: Context, site: Site, one: Settled) -> TableRow:
-    """Makes the row of a session that a closing settled."""
-    links, tx = context.links, one.transaction_id
+    """Makes the row of a session that a closing settled. `Adjusted`: its energy with what was declared."""
+    links, tx, calendar = context.links, one.transaction_id, context.calendar(site)
     return TableRow(
         [
             link(links.session(site.name, one.station, tx), tx),
             link(links.station(site.name, one.station), one.station),
-            "complete" if one.settled == "complete" else "by rule",
+            "messages complete" if one.settled == "complete" else "by rule",
             kwh(one.flow.net),
+            write_measured(one, calendar),
+            kwh(one.flow.net + one.adjusted) if one.adjusted else UNKNOWN,
+            f"{one.findings:,}",
+            f"{one.holds:,}",
             f"{one.lines:,}",
-        ]
+        ],
+        MARK if one.holds else "",
     )
 
 

@@ -7,6 +7,7 @@ from typing import Any
 
 from markupsafe import Markup
 
+from ocpp_board.limits import SILENT_HOURS
 from ocpp_board.writers.calendar import Calendar, find_calendar
 from ocpp_board.writers.pages.cells import link
 from ocpp_board.writers.pages.day_book import DayBook
@@ -21,7 +22,8 @@ from ocpp_board.writers.tokens import NONE
 class PageOptions:
     """How pages are to be. `tokens`: how drivers' tokens are shown; `refresh`: the seconds after which a browser loads
     a page again; `until`: up to when the data is, and `oldest`: how many seconds old it may be; `written`: the moment
-    that pages name as theirs, or that of the writing; `workers`: how many processes write files."""
+    that pages name as theirs, or that of the writing; `workers`: how many processes write files; `silent`: after how
+    many hours without a message a session that lacks some is silent."""
 
     tokens: str = NONE
     refresh: int | None = None
@@ -31,6 +33,7 @@ class PageOptions:
     last: date = date.max
     workers: int = 1
     written: datetime | None = None
+    silent: int = SILENT_HOURS
 
 
 @dataclass
@@ -54,6 +57,10 @@ class Context:
     def is_shown(self, day: date) -> bool:
         """Whether a day is among those that are shown."""
         return self.options.first <= day <= self.options.last
+
+    def find_silent(self) -> datetime:
+        """Finds the moment since which nothing came of sessions that are silent."""
+        return self.written - timedelta(hours=self.options.silent)
 
     def is_old(self) -> bool:
         """Whether the data is older than it should be."""

@@ -4,6 +4,7 @@ from bisect import bisect_left
 from collections import OrderedDict
 from collections.abc import Iterable, Sequence
 from datetime import date, datetime, timedelta
+from functools import reduce
 from typing import Any, NamedTuple
 
 from markupsafe import Markup
@@ -115,15 +116,7 @@ class SiteDay:
 
 def merge_periods(periods: Sequence[Period]) -> Period:
     """Merges periods of stations that begin at once to one of their site."""
-    if len(periods) == 1:
-        return periods[0]
-    return Period(
-        periods[0].start,
-        periods[0].seconds,
-        sum_of(p.flow for p in periods),
-        all(p.measured for p in periods),
-        any(p.numbers_missing for p in periods),
-    )
+    return reduce(Period.plus, periods)
 
 
 class StationHistory:

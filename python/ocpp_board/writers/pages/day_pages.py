@@ -6,7 +6,7 @@ from datetime import date, timedelta
 
 from markupsafe import Markup
 
-from ocpp_board.energies import sum_of
+from ocpp_board.energies import kwh, sum_of
 from ocpp_board.writers.calendar import Calendar
 from ocpp_board.writers.pages.cells import (
     TableRow,
@@ -24,6 +24,7 @@ from ocpp_board.writers.pages.lanes import MOST_LANES, draw_lanes, group_lanes
 from ocpp_board.writers.pages.month_pages import make_day_columns, write_peak
 from ocpp_board.writers.pages.pictures import Scale, draw_day
 from ocpp_board.writers.pages.sessions import group_findings, make_session_table
+from ocpp_board.writers.tables import name_figure
 
 # Stations of a page, and sessions of a station's day.
 MOST_STATIONS, MOST_SESSIONS = 200, 200
@@ -77,7 +78,9 @@ def write_period(p: Period, calendar: Calendar, exports: bool) -> str:
     left out."""
     cells = [] if calendar.is_utc else [f"{p.start:%H:%M}"]
     cells += [*write_flow(p.flow, exports), write_kw(p.flow.net, p.seconds)]
-    doubts = [] if p.measured else ["estimated"]
+    doubts = [name_figure(p.estimated, p.by_values)] if p.estimated else []
+    if doubts and p.by_values == p.estimated:
+        doubts = [f"{doubts[0]}: {kwh(p.shared)} kWh"]
     doubts += ["numbers missing"] if p.numbers_missing else []
     doubt = f'<td class="doubt">{", ".join(doubts)}' if doubts else "<td>"
     times = calendar.times(p.start, p.seconds)

@@ -40,19 +40,28 @@ class Totals(NamedTuple):
 
 
 class Period(NamedTuple):
-    """A settlement period of a site or a station."""
+    """A settlement period of a site or a station: how many figures in it are estimated, how many of these by meter
+    values, and what the estimates come to."""
 
     start: datetime
     seconds: int
     flow: Flow
-    measured: bool = True
+    estimated: int = 0
+    by_values: int = 0
+    shared: int = 0
     numbers_missing: bool = False
 
     def plus(self, other: "Period") -> "Period":
         """Both together."""
-        measured = self.measured and other.measured
-        missing = self.numbers_missing or other.numbers_missing
-        return Period(self.start, self.seconds, self.flow.plus(other.flow), measured, missing)
+        return Period(
+            self.start,
+            self.seconds,
+            self.flow.plus(other.flow),
+            self.estimated + other.estimated,
+            self.by_values + other.by_values,
+            self.shared + other.shared,
+            self.numbers_missing or other.numbers_missing,
+        )
 
 
 class Found(NamedTuple):
@@ -174,7 +183,8 @@ class Closing(NamedTuple):
 
 
 class Correction(NamedTuple):
-    """What a closing changed of a period of a session that one before had settled, and the lines that made it."""
+    """What a closing changed of a period of a session that one before had settled: by how much, by how many estimated
+    figures, and the lines that made it; how many findings and holds the session has."""
 
     station: str
     transaction_id: str
@@ -182,26 +192,45 @@ class Correction(NamedTuple):
     net: int
     first_line: int
     last_line: int
+    estimated: int
+    findings: int
+    holds: int
 
 
 class Settled(NamedTuple):
-    """What a closing settled of a session: `complete` or by `rule`."""
+    """What a closing settled of a session, `complete` or by `rule`, and what is beside that: whether readings say its
+    energy, findings, holds, and adjustments (net, in mWh)."""
 
     station: str
     transaction_id: str
     settled: str
-    flow: Flow
     lines: int
+    energy_measured: str
+    first_reading_at: datetime | None
+    last_reading_at: datetime | None
+    findings: int
+    holds: int
+    adjusted: int
+    flow: Flow
+
+
+class LeftOut(NamedTuple):
+    """A station whose messages are left out since they are of another version of OCPP."""
+
+    station: str
+    version: str
 
 
 class Lack(NamedTuple):
-    """A session that is not complete: its state, how many numbers are missing, and when it began."""
+    """A session that lacks messages: its state, how many numbers are missing, when it began, and whether readings say
+    its energy."""
 
     station: str
     transaction_id: str
     state: str
     missing: int
     first_at: datetime | None
+    energy_measured: str = "no"
 
 
 class Trouble(NamedTuple):

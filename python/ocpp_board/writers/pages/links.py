@@ -46,13 +46,17 @@ def number_page(name: str, number: int) -> str:
 class FilePaths:
     """The files of pages, below the folder of all."""
 
+    def lead(self, path: str) -> str:
+        """Leads to a file."""
+        return path
+
     def index(self) -> str:
         """The page of all sites."""
-        return "index.html"
+        return self.lead("index.html")
 
     def site(self, site: str) -> str:
         """The page of a site."""
-        return f"{name_file(site)}/index.html"
+        return self.lead(f"{name_file(site)}/index.html")
 
     def scope(self, site: str, station: str | None) -> str:
         """The folder of a site, or of one of its stations."""
@@ -60,71 +64,39 @@ class FilePaths:
 
     def month(self, site: str, station: str | None, month: date) -> str:
         """The page of a month."""
-        return f"{self.scope(site, station)}/{month:%Y-%m}.html"
+        return self.lead(f"{self.scope(site, station)}/{month:%Y-%m}.html")
 
     def day(self, site: str, station: str | None, day: date, number: int = 1) -> str:
         """The page of a day."""
-        return f"{self.scope(site, station)}/{number_page(f'{day}', number)}"
+        return self.lead(f"{self.scope(site, station)}/{number_page(f'{day}', number)}")
 
     def station(self, site: str, station: str) -> str:
         """The page of a station."""
-        return f"{self.scope(site, station)}/index.html"
+        return self.lead(f"{self.scope(site, station)}/index.html")
 
     def session(self, site: str, station: str, transaction_id: str) -> str:
         """The page of a transaction."""
-        return f"{self.scope(site, station)}/session-{name_file(transaction_id)}.html"
+        return self.lead(f"{self.scope(site, station)}/session-{name_file(transaction_id)}.html")
 
     def listing(self, site: str, name: str, number: int = 1) -> str:
         """The page of a list of a site."""
-        return f"{name_file(site)}/{number_page(name, number)}"
+        return self.lead(f"{name_file(site)}/{number_page(name, number)}")
 
     def closing(self, site: str, number: int) -> str:
         """The page of a closing of a site."""
-        return f"{name_file(site)}/closing-{number}.html"
+        return self.lead(f"{name_file(site)}/closing-{number}.html")
 
 
-class FileLinks:
+class FileLinks(FilePaths):
     """The same as a page links to them that is in a folder below."""
 
     def __init__(self, path: str) -> None:
         """`path`: that of the page with the links."""
-        self.up, self.paths = "../" * path.count("/"), FilePaths()
+        self.up = "../" * path.count("/")
 
     def lead(self, path: str) -> str:
         """Leads to a file."""
         return self.up + quote(path)
-
-    def index(self) -> str:
-        """The page of all sites."""
-        return self.lead(self.paths.index())
-
-    def site(self, site: str) -> str:
-        """The page of a site."""
-        return self.lead(self.paths.site(site))
-
-    def month(self, site: str, station: str | None, month: date) -> str:
-        """The page of a month."""
-        return self.lead(self.paths.month(site, station, month))
-
-    def day(self, site: str, station: str | None, day: date, number: int = 1) -> str:
-        """The page of a day."""
-        return self.lead(self.paths.day(site, station, day, number))
-
-    def station(self, site: str, station: str) -> str:
-        """The page of a station."""
-        return self.lead(self.paths.station(site, station))
-
-    def session(self, site: str, station: str, transaction_id: str) -> str:
-        """The page of a transaction."""
-        return self.lead(self.paths.session(site, station, transaction_id))
-
-    def listing(self, site: str, name: str, number: int = 1) -> str:
-        """The page of a list of a site."""
-        return self.lead(self.paths.listing(site, name, number))
-
-    def closing(self, site: str, number: int) -> str:
-        """The page of a closing of a site."""
-        return self.lead(self.paths.closing(site, number))
 
     def operate(self, site: str, station: str, transaction_id: str) -> str:
         """Nobody voids events by a file."""

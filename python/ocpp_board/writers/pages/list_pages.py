@@ -1,13 +1,14 @@
-"""The lists of a site, which go on on further pages: stations, findings, sessions that lack messages, refused messages,
-what operators did, closings."""
+"""The lists of a site, which go on on further pages: stations, findings, sessions that lack messages, silent ones,
+refused messages, what operators did, closings, the main meter beside the EVSEs."""
 
 from collections.abc import Callable, Mapping, Sequence
-from datetime import datetime
+from datetime import datetime, timedelta
 from typing import NamedTuple
 
 from markupsafe import Markup
 
 from ocpp_board.energies import kwh
+from ocpp_board.store.values import compare_main, find_main_span
 from ocpp_board.writers.calendar import Calendar
 from ocpp_board.writers.pages.cells import (
     MARK,
@@ -31,18 +32,38 @@ from ocpp_board.writers.pages.facts import (
     StationSummary,
 )
 from ocpp_board.writers.pages.kinds import explain, find_place
+from ocpp_board.writers.pages.sessions import write_measured
 from ocpp_board.writers.pages.site_pages import (
     has_export,
     make_station_columns,
     make_station_row,
 )
 
-# Rows of a page.
-LIST_ROWS = 200
+# Rows of a page, and periods of a main meter that are shown.
+LIST_ROWS, MOST_METER = 200, 3_000
 FINDINGS = make_columns("Station", " Transaction", " Finding", "Times", " First", " Detail")
 LACKING = make_columns(
-    "Transaction", " Station", "EVSE", " First event", " State", "Missing numbers", " Which"
+    "Transaction",
+    " Station",
+    "EVSE",
+    " First event",
+    " State",
+    "Missing numbers",
+    " Which",
+    " Energy measured",
 )
+SILENT = make_columns(
+    "Transaction",
+    " Station",
+    "EVSE",
+    " Nothing came since",
+    " State",
+    "Missing numbers",
+    " Which",
+    "Imported, kWh",
+    " Energy measured",
+)
+METER = make_columns("Period", "Main meter, kWh", "EVSEs, kWh", "Losses, kWh")
 REFUSED = make_columns(
     "Station",
     " Last and first",
@@ -118,24 +139,58 @@ def list_findings(context: Context, site: Site, _stations: Stations, first: int)
 
 
 def list_lacking(context: Context, site: Site, _stations: Stations, first: int) -> Listing:
-    """Lists the sessions of a site that are not complete, the latest first."""
+    """Lists the sessions of a site that lack messages, the latest first."""
     sessions = context.reader.lacking(site.name, LIST_ROWS + 1, first)
     return Listing(LACKING, *split([make_lacking_row(context, site, one) for one in sessions]))
 
 
 def make_lacking_row(context: Context, site: Site, one: SessionFacts) -> TableRow:
-    """Makes the row of a session that is not complete. It says nothing that each further message changes."""
+    """Makes the row of a session that lacks messages. It says nothing that each further message changes."""
+    measured = {"part": "from its first reading on"}.get(one.energy_measured, one.energy_measured)
+    return TableRow([*write_lacking(context, site, one, one.first_at), measured], MARK)
+
+
+def write_lacking(
+    context: Context, site: Site, one: SessionFacts, at: datetime | None
+) -> list[str]:
+    """Writes the first cells of a session that lacks messages. `at`: its moment."""
     links = context.links
-    cells = [
+    return [
         link(links.session(site.name, one.station, one.transaction_id), one.sent_id),
         link(links.station(site.name, one.station), one.station),
         str(one.evse) if one.evse else "not named",
-        write_moment(context.calendar(site), one.first_at),
+        write_moment(context.calendar(site), at),
         one.state,
         f"{one.missing:,}",
         write_ranges(one.gaps) or UNKNOWN,
     ]
-    return TableRow(cells, MARK)
+
+
+def list_silent(context: Context, site: Site, _stations: Stations, first: int) -> Listing:
+    """Lists the sessions of a site that lack messages and are silent, the latest first."""
+    calendar, rows = context.calendar(site), list[TableRow]()
+    for one, heard_at in context.reader.silent(
+        site.name, context.find_silent(), LIST_ROWS + 1, first
+    ):
+        cells = [*write_lacking(context, site, one, heard_at), kwh(one.flow.up - one.flow.down)]
+        rows.append(TableRow([*cells, write_measured(one, calendar)], MARK))
+    return Listing(SILENT, *split(rows))
+
+
+def list_meter(context: Context, site: Site, _stations: Stations, first: int) -> Listing:
+    """Lists the periods in which the main meter of a site was read, the latest first."""
+    calendar, period = context.calendar(site), timedelta(seconds=site.period)
+    span = find_main_span(context.reader.store, site.name)
+    if span is None:
+        return Listing(METER, (), False)
+    end = span[1] - timedelta(seconds=span[1].timestamp() % site.period) - first * period
+    begin = end - LIST_ROWS * period
+    found = list(compare_main(context.reader.store, site.name, site.period, begin, end))
+    rows = [
+        TableRow([wrap_time(calendar.minute(one.starts)), *map(kwh, one[1:]), kwh(one.losses)])
+        for one in reversed(found)
+    ]
+    return Listing(METER, rows, begin > span[0] and first + LIST_ROWS < MOST_METER)
 
 
 def list_refused(context: Context, site: Site, _stations: Stations, first: int) -> Listing:
@@ -222,8 +277,15 @@ LISTS = {
     "lacking": ListKind(
         "Sessions that lack messages",
         "The latest first. A session that goes on is among them.",
-        "All sessions are complete.",
+        "No session lacks messages.",
         list_lacking,
+    ),
+    "silent": ListKind(
+        "Silent sessions",
+        "Sessions that lack messages and of which nothing came for some time ({hours} hours): ask their stations by "
+        "GetTransactionStatus. The latest first.",
+        "No session that lacks messages is silent for {hours} hours.",
+        list_silent,
     ),
     "refused": ListKind(
         "Refused messages",
@@ -239,6 +301,13 @@ LISTS = {
         "What each closing froze, the latest first; corrections are what it changed of what one before had settled.",
         "No day is closed.",
         list_closings,
+    ),
+    "site-meter": ListKind(
+        "Main meter beside the EVSEs",
+        "What the main meter (EVSE 0 of MeterValues) rose by in each period, what the EVSEs took, and the losses "
+        "between them, the latest first. `ocpp-board site-meter` lists any month.",
+        "No MeterValues of EVSE 0 came.",
+        list_meter,
     ),
 }
 
@@ -259,8 +328,8 @@ def make_list_page(
         f"{kind.title}, site {site.name}" + (f", page {number:,}" if number > 1 else ""),
         context.calendar(site),
         context.lead_up(site),
-        about=kind.about,
-        nothing=kind.nothing,
+        about=kind.about.format(hours=context.options.silent),
+        nothing=kind.nothing.format(hours=context.options.silent),
         caption=kind.title,
         columns=listing.columns,
         rows=listing.rows,

@@ -17,6 +17,7 @@ from ocpp_board.writers.pages.facts import (
     Correction,
     Found,
     Lack,
+    LeftOut,
     Period,
     RefusedText,
     SessionFacts,
@@ -33,6 +34,7 @@ LONGEST = timedelta(days=62)
 MOST_NAMES = 500
 NAMES = [f"s_{one}{other}" for one in ascii_lowercase for other in ascii_lowercase][:MOST_NAMES]
 FLOWS = "up, down, export_up, export_down"
+HOW = "estimated, by_values, shared, lacks_numbers"
 TOTALS = f"transactions, complete_transactions, events, voided, missing, {FLOWS}"
 SESSION = (
     "station, transaction_id, site, sent_id, evse, events, first_number, last_number, complete, missing, gaps, "
@@ -197,7 +199,7 @@ class Reader:
     def site_periods(self, site: Site, begin: datetime, end: datetime) -> list[Period]:
         """The periods of a site from one moment to another."""
         sql = (
-            f"select starts, {FLOWS}, estimated, lacks_numbers from board_site_period "
+            f"select starts, {FLOWS}, {HOW} from board_site_period "
             "where site = :site and starts >= :begin and starts < :end order by starts"
         )
         rows = self.store.fetch(sql, site=site.name, begin=begin, end=end)
@@ -213,13 +215,13 @@ class Reader:
         for first in range(0, len(stations), MOST_NAMES):
             names = dict(zip(NAMES, stations[first : first + MOST_NAMES]))
             sql = (
-                f"select starts, {FLOWS}, estimated, lacks_numbers, station from board_period "
+                f"select starts, {FLOWS}, {HOW}, station from board_period "
                 "where site || '' = :site and starts >= :begin and starts < :end and station in "
                 f"({', '.join(f':{name}' for name in names)}) order by starts"
             )
             rows = self.store.fetch(sql, site=site.name, begin=begin, end=end, **names)
             for row in rows:
-                found.setdefault(row[7], []).append(make_period(row, site.period))
+                found.setdefault(row[9], []).append(make_period(row, site.period))
         return found
 
     def next_moment(self, site: str, station: str | None, since: datetime) -> datetime | None:
@@ -351,15 +353,18 @@ class Reader:
     def session_findings(self, session: SessionFacts) -> list[Found]:
         """The findings of a transaction."""
         sql = (
-            "select station, transaction_id, kind, times, first_at, detail from all_finding "
+            "select station, transaction_id, kind, times, first_at, detail from session_finding "
             "where site = :site and transaction_id = :tx"
         )
         rows = self.read_of(sql, session.site, session.station, "", tx=session.transaction_id)
         return [make_found(row) for row in rows]
 
     def lacks(self, site: str, station: str | None = None) -> list[Lack]:
-        """The sessions of a site or of one of its stations that are not complete."""
-        sql = "select station, transaction_id, state, missing, first_at from lacking where site = :site"
+        """The sessions of a site or of one of its stations that lack messages."""
+        sql = (
+            "select station, transaction_id, state, missing, first_at, energy_measured from lacking "
+            "where site = :site"
+        )
         return [Lack(*row) for row in self.read_of(sql, site, station, "")]
 
     def lacking(self, site: str, count: int, skipped: int = 0) -> list[SessionFacts]:
@@ -370,6 +375,31 @@ class Reader:
         )
         rows = self.store.fetch(sql, site=site, count=count, skipped=skipped)
         return [make_session(row) for row in rows]
+
+    def silent(
+        self, site: str, before: datetime, count: int, skipped: int = 0
+    ) -> list[tuple[SessionFacts, datetime]]:
+        """The sessions of a site that lack messages and of which nothing came since a moment, and when something came
+        last; the latest first."""
+        columns = ", ".join(f"s.{name}" for name in SESSION.split(", "))
+        sql = (
+            f"select {columns}, l.heard_at from lacking l "
+            "join session s on s.station = l.station and s.transaction_id = l.transaction_id "
+            "where l.site = :site and l.heard_at < :before "
+            "order by l.heard_at desc, l.station, l.transaction_id limit :count offset :skipped"
+        )
+        rows = self.store.fetch(sql, site=site, before=before, count=count, skipped=skipped)
+        return [(make_session(row), row.heard_at) for row in rows]
+
+    def left_out(self, site: str | None) -> list[LeftOut]:
+        """The stations of a site whose messages are left out for their version; without a site, those of none."""
+        of_site = "= :site" if site is not None else "not in (select site from site)"
+        rows = self.store.fetch(
+            "select l.station, l.version from left_out l left join station t on t.station = l.station "
+            f"where coalesce(t.site, l.site) {of_site} order by l.station, l.version",
+            **({"site": site} if site is not None else {}),
+        )
+        return [LeftOut(*row) for row in rows]
 
     def refused(
         self, site: str, station: str | None, count: int, skipped: int = 0
@@ -472,8 +502,11 @@ class Reader:
     def corrections(self, site: str, number: int, count: int) -> list[Correction]:
         """What a closing changed of what one before had settled."""
         sql = (
-            "select station, transaction_id, starts, net, first_line, last_line from correction "
-            "where site = :site and closing = :number order by station, transaction_id, starts limit :count"
+            "select c.*, d.findings, d.holds from ("
+            "select station, transaction_id, starts, net, first_line, last_line, estimated from correction "
+            "where site = :site and closing = :number order by station, transaction_id, starts limit :count) c "
+            "join session_doubt d on d.station = c.station and d.transaction_id = c.transaction_id "
+            "order by c.station, c.transaction_id, c.starts"
         )
         rows = self.store.fetch(sql, site=site, number=number, count=count)
         return [Correction(*row) for row in rows]
@@ -481,12 +514,18 @@ class Reader:
     def settled_sessions(self, site: str, number: int, count: int) -> list[Settled]:
         """The sessions that a closing settled."""
         sql = (
-            f"select station, transaction_id, settled, {FLOWS}, lines from closed_session "
-            "where site = :site and closing = :number and settled is not null "
-            "order by station, transaction_id limit :count"
+            "select c.station, c.transaction_id, c.settled, c.lines, s.energy_measured, s.first_reading_at, "
+            "s.last_reading_at, d.findings, d.holds, a.adjusted_import - a.adjusted_export as adjusted, c.up, c.down, "
+            "c.export_up, c.export_down from ("
+            "select * from closed_session where site = :site and closing = :number and settled is not null "
+            "order by station, transaction_id limit :count) c "
+            "join session s on s.station = c.station and s.transaction_id = c.transaction_id "
+            "join session_doubt d on d.station = c.station and d.transaction_id = c.transaction_id "
+            "join adjusted_session a on a.station = c.station and a.transaction_id = c.transaction_id "
+            "order by c.station, c.transaction_id"
         )
         rows = self.store.fetch(sql, site=site, number=number, count=count)
-        return [Settled(row[0], row[1], row[2], make_flow(row, 3), row[7]) for row in rows]
+        return [Settled._make([*row[:10], make_flow(row, 10)]) for row in rows]
 
     def count_strays(self) -> int:
         """How many messages came of stations that no site has."""
@@ -497,7 +536,7 @@ class Reader:
 def make_period(row: Row, seconds: int) -> Period:
     """Makes a period of its start, its energies, and how they were come by."""
     flow = Flow(row[1], row[2], row[3], row[4])
-    return Period(row[0], seconds, flow, not row[5], bool(row[6]))
+    return Period(row[0], seconds, flow, int(row[5]), int(row[6]), int(row[7]), bool(row[8]))
 
 
 def make_found(row: Row) -> Found:

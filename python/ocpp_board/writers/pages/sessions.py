@@ -23,7 +23,7 @@ from ocpp_board.writers.pages.cells import (
     write_flow,
     write_ranges,
 )
-from ocpp_board.writers.pages.facts import Found, SessionFacts
+from ocpp_board.writers.pages.facts import Found, SessionFacts, Settled
 from ocpp_board.writers.pages.links import Links
 from ocpp_board.writers.pages.pictures import draw_strip
 
@@ -45,9 +45,21 @@ def write_finding(one: Found) -> Markup:
     return join([flag(one.kind + times), *([one.detail] if one.detail else [])], ": ")
 
 
-def write_state(session: SessionFacts, findings: Sequence[Found]) -> Markup:
-    """Writes whether a session is complete, what is missing of it, and what is doubtful."""
-    doubts = [write_finding(one) for one in findings]
+def write_measured(session: SessionFacts | Settled, calendar: Calendar) -> str:
+    """Writes whether the energy of a session is measured: yes, from when to when only, or no."""
+    if session.energy_measured != "part":
+        return session.energy_measured
+    ends = session.first_reading_at, session.last_reading_at
+    return Markup("from %s to %s only") % tuple(
+        wrap_time(calendar.minute(at)) if at else UNKNOWN for at in ends
+    )
+
+
+def write_state(session: SessionFacts, findings: Sequence[Found], calendar: Calendar) -> Markup:
+    """Writes whether all messages of a session came, which lack, whether its energy is measured, and what is
+    doubtful."""
+    measured = join(["energy measured", write_measured(session, calendar)], ": ")
+    doubts = [measured, *(write_finding(one) for one in findings)]
     if not session.gaps:
         return stack(session.state or "no event counts", *doubts)
     missing = f"{count(session.missing, 'number')} missing: {write_ranges(session.gaps)}"
@@ -89,7 +101,7 @@ def make_session_row(
     has_export: bool,
     has_station: bool = False,
 ) -> TableRow:
-    """Makes the row of a session; one that is not complete or doubtful is marked."""
+    """Makes the row of a session; one that lacks messages or is doubtful is marked."""
     net, *others = write_flow(session.flow, has_export)
     href = links.session(session.site, session.station, session.transaction_id)
     cells: list[str] = [link(href, session.sent_id)]
@@ -98,7 +110,7 @@ def make_session_row(
     both = (
         wrap_time(calendar.second(at)) if at else UNKNOWN for at in (session.began, session.ended)
     )
-    cells += [write_state(session, findings), stack(*both)]
+    cells += [write_state(session, findings, calendar), stack(*both)]
     cells += [write_duration(session.seconds) or UNKNOWN]
     cells += [str(session.evse) if session.evse else "not named", net]
     cells += [write_registers(session.registers), *others]

@@ -23,7 +23,7 @@ from ocpp_board.writers.pages.cells import (
     write_flow,
 )
 from ocpp_board.writers.pages.context import Context
-from ocpp_board.writers.pages.facts import Site, StationSummary, Totals
+from ocpp_board.writers.pages.facts import LeftOut, Site, StationSummary, Totals
 from ocpp_board.writers.pages.kinds import NAMES, explain, find_place
 from ocpp_board.writers.pages.month_pages import find_month, find_months
 from ocpp_board.writers.pages.sessions import make_session_table
@@ -36,6 +36,8 @@ from ocpp_board.writers.pages.summaries import (
 
 # Stations and sessions on a site's page, and stations that a problem links to.
 MOST_STATIONS, MOST_SESSIONS, MOST_LINKS = 100, 40, 5
+# Stations that are named which are left out.
+MOST_LEFT_OUT = 20
 PROBLEMS = make_columns("Problem", "Sessions", "Times", " Stations", " What it means")
 SITES = make_columns(
     "Site",
@@ -100,8 +102,10 @@ def read_sites(context: Context, sites: Sequence[Site]) -> list[SiteFacts]:
     return found
 
 
-def make_index(context: Context, facts: Sequence[SiteFacts], strays: int = 0) -> Markup:
-    """Makes the page of all sites."""
+def make_index(
+    context: Context, facts: Sequence[SiteFacts], strays: int = 0, has_strangers: bool = True
+) -> Markup:
+    """Makes the page of all sites. `has_strangers`: it names stations of no site that are left out."""
     return context.render(
         "index.html",
         "All sites",
@@ -110,7 +114,15 @@ def make_index(context: Context, facts: Sequence[SiteFacts], strays: int = 0) ->
         columns=SITES,
         rows=[make_site_row(context, one) for one in facts],
         strays=strays,
+        left_out=name_left_out(context.reader.left_out(None)) if has_strangers else "",
     )
+
+
+def name_left_out(stations: Sequence[LeftOut]) -> str:
+    """Names stations that are left out for their version, so many at most."""
+    names = [f"{one.station} ({one.version})" for one in stations[:MOST_LEFT_OUT]]
+    more = len(stations) - len(names)
+    return ", ".join(names) + (f" and {more:,} more (`ocpp-board left-out`)" if more > 0 else "")
 
 
 def make_site_row(context: Context, one: SiteFacts) -> TableRow:
@@ -152,6 +164,7 @@ def make_site_page(
         context.lead_up(),
         site=site,
         figures=make_figures(totals),
+        left_out=name_left_out(context.reader.left_out(site.name)),
         refused=refused,
         refused_href=context.links.listing(site.name, "refused"),
         lists=list_listings(context, site),
@@ -174,9 +187,11 @@ def list_listings(context: Context, site: Site) -> list[Markup]:
         "stations": "Stations",
         "findings": "Findings",
         "lacking": "Sessions that lack messages",
+        "silent": "Silent sessions",
         "refused": "Refused messages",
         "deeds": "What operators did",
         "closings": "Closings",
+        "site-meter": "Main meter",
     }
     links = context.links
     return [link(links.listing(site.name, name), text) for name, text in names.items()]

@@ -3,7 +3,8 @@
     index.html                              all sites
     SITE/index.html                         a site
     SITE/YYYY-MM.html, SITE/YYYY-MM-DD.html a month, a day
-    SITE/stations.html, findings.html, lacking.html, refused.html, deeds.html, closings.html
+    SITE/stations.html, findings.html, lacking.html, silent.html, refused.html, deeds.html, closings.html,
+        site-meter.html                     the lists of a site
     SITE/closing-NUMBER.html                a closing
     SITE/STATION/index.html                 a station, and its months and days as a site's
     SITE/STATION/session-ID.html            a transaction
@@ -23,6 +24,7 @@ from typing import NamedTuple
 from markupsafe import Markup
 
 from ocpp_board.store.database import Database, open_again
+from ocpp_board.store.values import find_main_span
 from ocpp_board.writers.calendar import Calendar, find_calendar
 from ocpp_board.writers.copies import share_work
 from ocpp_board.writers.pages.closing_pages import make_closing_page
@@ -31,6 +33,7 @@ from ocpp_board.writers.pages.day_book import DayBook
 from ocpp_board.writers.pages.day_pages import MOST_STATIONS, make_day_page, make_station_day_page
 from ocpp_board.writers.pages.facts import (
     Found,
+    LeftOut,
     SessionFacts,
     SessionRecord,
     Site,
@@ -51,7 +54,7 @@ PATHS = FilePaths()
 KEPT_SESSIONS, MOST_SESSION_DAYS = 20_000, 62
 # The names of pages of a site's folder.
 OURS = re.compile(
-    r"(index|stations|findings|lacking|refused|deeds|closings|closing-\d+|session-.*|\d{4}-\d\d(-\d\d)?)(\.\d+)?\.html"
+    rf"(index|{'|'.join(LISTS)}|closing-\d+|session-.*|\d{{4}}-\d\d(-\d\d)?)(\.\d+)?\.html"
 )
 
 # A station and a transaction of it, or None where only what was refused of the station changed.
@@ -63,6 +66,14 @@ class Share(NamedTuple):
 
     site: Site
     station: str | None
+
+
+class Others(NamedTuple):
+    """What pages of a site show that changes without a change of a transaction."""
+
+    silent: Sequence[object]
+    main: object
+    left_out: Sequence[LeftOut]
 
 
 class PageWriter:
@@ -80,6 +91,8 @@ class PageWriter:
         self.deeds = dict[tuple[str, str], int]()
         # By site, the last closing that has a page.
         self.closings = dict[str, int]()
+        # By site, what its pages show that changes without a change of a transaction.
+        self.others = dict[str, Others]()
         self.written = find_now(options)
         self.count = 0
 
@@ -124,6 +137,7 @@ class PageWriter:
         self.write_index(sites)
         for site in sites:
             remove_old(f"{self.out}/{PATHS.scope(site.name, None)}", begun)
+            self.others[site.name] = self.find_others(site)
         return self.count
 
     def open_copy(self) -> Callable[[Share], int]:
@@ -239,6 +253,37 @@ class PageWriter:
                 self.write_closings(site, max(had, 1), has)
                 self.write_list(site, "closings")
         return self.count
+
+    def find_others(self, site: Site) -> Others:
+        """Finds what pages of a site show that changes without a change of a transaction."""
+        context = self.open_context(PATHS.site(site.name))
+        silent = self.reader.silent(site.name, context.find_silent(), MOST_SILENT)
+        return Others(
+            silent, find_main_span(self.store, site.name), self.reader.left_out(site.name)
+        )
+
+    def write_others(self) -> int:
+        """Writes what changed without a change of a transaction, and gives how many pages: sessions that became silent,
+        periods of main meters, stations that are left out. Raises OSError."""
+        self.count, self.written = 0, find_now(self.options)
+        sites = self.reader.sites()
+        if any([self.write_other_lists(site) for site in sites]):
+            self.write_index(sites, ())
+        return self.count
+
+    def write_other_lists(self, site: Site) -> bool:
+        """Writes the lists of a site that have changed, and its page where other stations are left out; whether it
+        did."""
+        has, had = self.find_others(site), self.others.get(site.name)
+        self.others[site.name] = has
+        if had is None or had.silent != has.silent:
+            self.write_list(site, "silent")
+        if had is None or had.main != has.main:
+            self.write_list(site, "site-meter")
+        if (had.left_out if had else []) == has.left_out:
+            return False
+        self.write_site(site)
+        return True
 
     def write_session(
         self,
@@ -363,6 +408,7 @@ class PageWriter:
         if any(show_troubles(before.get(name)) != show_troubles(after[name]) for name in names):
             self.write_list(site, "findings")
             self.write_list(site, "lacking")
+        self.write_other_lists(site)
         if any(tx is None for _, tx in changed):
             self.write_list(site, "refused")
         if any(self.has_deeds(station, tx) for station, tx in changed if tx is not None):
@@ -381,6 +427,8 @@ class PageWriter:
 
 
 MOST_SPAN_LINES = 600
+# Silent sessions that are looked at for changes.
+MOST_SILENT = 2_000
 
 
 def write_file(path: str, data: bytes) -> None:

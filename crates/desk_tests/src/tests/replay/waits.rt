@@ -1,5 +1,6 @@
 // Flushes: answers are out before the replay waits for its reader, and a failed flush is reported.
 use crate::tests::replay::streams::{CountingWriter, FailingFlush, WaitingReader};
+use board_report::write_out;
 use script_replay::{ReplayFault, replay_stream};
 use std::cell::Cell;
 use std::test::Fail;
@@ -66,5 +67,19 @@ fn flush_fails(rt: HostRuntime) -> Result<(), Fail> {
         assert!(rt; end == Err(ReplayFault::WriteFault), "after {passes}");
     }
     assert!(rt; end_after_flushes(&rt, SCRIPT.len(), 2) == Ok(()));
+    Ok(())
+}
+
+#[test]
+fn written_out_is_flushed(rt: HostRuntime) -> Result<(), Fail> {
+    let unflushed = Cell::new(0);
+    let mut writer = CountingWriter {
+        unflushed: &unflushed,
+        flushes: 0,
+    };
+    assert!(rt; write_out(&mut writer, b"board").is_ok());
+    assert!(rt; writer.flushes == 1 && unflushed.get() == 0);
+    let mut failing = FailingFlush { passes: 0 };
+    assert!(rt; write_out(&mut failing, b"board").is_err());
     Ok(())
 }

@@ -1,5 +1,6 @@
 """A PostgreSQL of a test's own: begun, killed and begun again; and parts of the package as processes."""
 
+import importlib.util
 import os
 import pwd
 import select
@@ -15,12 +16,21 @@ from contextlib import contextmanager
 from pathlib import Path
 from typing import Self
 
-TOP = Path(__file__).resolve().parent.parent.parent
+TOP = Path(__file__).resolve().parent.parent
 BIN = Path("/usr/lib/postgresql/15/bin")
 # A file system in memory, and the bytes that it has to have free.
 MEMORY, ROOM = Path("/dev/shm"), 4 << 30
 # Seconds for what comes to be so, on a machine with much else to do.
 PATIENCE = 60.0
+
+
+def explain_lack() -> str:
+    """Why there can be no PostgreSQL here; empty where there can."""
+    if not (BIN / "postgres").exists():
+        return "PostgreSQL 15 is not installed (Debian: apt-get install postgresql)"
+    if importlib.util.find_spec("psycopg") is None:
+        return "psycopg is not installed for this Python (Debian: apt-get install python3-psycopg)"
+    return ""
 
 
 def find_port() -> int:

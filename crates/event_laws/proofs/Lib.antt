@@ -1,0 +1,3 @@
+mod MemberLemmas
+mod SampleLemmas
+pub mod EventRequests

@@ -1,0 +1,5 @@
+mod KeptLines
+mod Accepted
+mod LineLengths
+pub mod CutJournals
+pub mod Heads
