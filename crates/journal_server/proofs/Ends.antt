@@ -93,6 +93,8 @@ its_script front sites stations firsts before left tells none of_plan restored e
           let held : (contents_of firsts k).changes ≡ f.content.changes = ap (λ (o : Content). o.changes) (ap content_or_empty first) in
           let long = length-map (of_station k log) (λ (x : Entry). x.command) in
           omega (arith, counted, more, held, long);
+      texts = e.texts;
+      browsed = e.browsed;
       told = e.told;
       ended = ended;
       shown = record {
@@ -138,6 +140,8 @@ script_behind front sites stations firsts before begun head left tells begins s 
   accepted = s.accepted;
   each = s.each;
   given = s.given;
+  texts = s.texts;
+  browsed = s.browsed;
   told = s.told;
   ended = s.ended;
   shown = s.shown;
@@ -155,6 +159,8 @@ telling front sites stations firsts before left tells more on s = record {
   accepted = s.accepted;
   each = s.each;
   given = s.given;
+  texts = s.texts;
+  browsed = s.browsed;
   told = on s.log s.told;
   ended = s.ended;
   shown = s.shown;
@@ -198,12 +204,19 @@ ended_as name name' first first' before before' sites stations left tells more n
       cells = e.cells;
       seen = e.seen;
       written = e.written;
+      texts = e.texts;
+      browsed = e.browsed;
       told = on e.written.log e.told;
       given = e.given;
       count = e.count;
       limits = e.limits;
       is = e.is;
     })))
+
+-- what holds of each of two lists together holds of each of the first, and of the second
+pub all_front : {X : Type 0} (P : X → Type 0) (xs ys : List X) → All P (xs ++ ys) → All P xs
+all_front P [] ys h = All-nil P
+all_front P (x ∷ xs) ys h = All-cons P x xs (All-head P x (xs ++ ys) h) (all_front P xs ys (All-tail P x (xs ++ ys) h))
 
 -- moments that begin a list, by what is handed out
 pub begin_those : {S F : Type 0} (r : Result S F) (handed : S → List (List Entry)) (all : List (List Entry)) (log : List Entry)

@@ -8,8 +8,9 @@ use Rattle.site_book.{specs.Book.Known, specs.Prefix.IsPrefix}
 use Rattle.script_lines.{specs.LineMeaning.{asks_board, line_meaning}, specs.Lines.{Line, lines_of}, specs.Ranges.longest_line}
 use Rattle.script_ledgers.{specs.Drafts.site_name, specs.Script.{Script, line_step, start, script_after}}
 use Rattle.site_desk.{specs.declared.plan.SitePlan.SitePlan, specs.declared.plan.StationPlan.StationPlan, specs.declared.roster.StationPlace.StationPlace, specs.Roster.AreNewPlaces, specs.Close.changes_of, specs.Cell.{Cell, Held}}
-use Rattle.live_server.specs.Told.{Tells, operator_input}
+use Rattle.live_server.{specs.Browsing.IsSeenWithBoards, specs.Told.{Tells, operator_input}}
 use Rattle.running_desk.specs.Ordered.{lines_in}
+use Rattle.station_link.specs.Attended.{IsAnswered}
 use Rattle.journal_server.specs.Left.{Left}
 
 -- A script, in whole lines, that ends with these sites and stations, with the contents of these
@@ -59,13 +60,31 @@ AreGiven firsts log passes = (k : ℕ) (f : Cell) → slice_get firsts k ≡ Som
 abbrev pub IsKeptAnswer : (ℕ → Content) → ℕ → StationPlace → Command → Answer → Option (List Entry) → Type 0
 IsKeptAnswer first number at command answer seen = (note line : List ℕ) × (told : Option Known) × IsReceived at (first number) answer (entry number note line command) told seen
 
+-- Moments that came with accepted answers to stations' texts: each is a front of this list of lines. The line of the
+-- text's event is the last of that front, and the answer is the ledger's at the content to which the station's earlier
+-- lines lead.
+pub record AreTextAnswers (first : ℕ → Content) (log : List Entry) : Type 0 where
+  pub moments : List (List Entry)
+  pub begin : All (λ m. IsPrefix m log) moments
+  pub each : All (IsAnswered (IsKeptAnswer first)) moments
+
+-- Moments that came with boards in browsers: each is a front of this list of lines, and its board is that of the
+-- contents to which the stations' lines in that front lead.
+pub record AreBrowsedBoards (sites : List SitePlan) (stations : List StationPlan) (first : ℕ → Content) (log : List Entry) : Type 0 where
+  pub places : List StationPlace
+  pub placed : AreNewPlaces sites stations places
+  pub moments : List (List Entry)
+  pub begin : All (λ m. IsPrefix m log) moments
+  pub each : All (IsSeenWithBoards (AreBoardsBehind first places)) moments
+
 -- What a server wrote behind the front of its script, and the boards that it gave at its end. The
 -- front ends with these sites and stations, with the contents of the cells `firsts`. There is one
 -- list of lines. The writer, which had `before`, took their text and, if a write failed, a front of
 -- one more line. Each line speaks for its command on its station, and was accepted at the content
 -- to which the earlier lines of the station lead. Each station's own lines lead to its content, and
--- its passes counted one accepted answer for each of them. The console's answers belong to this list.
--- The boards are what `replay` answers behind the front and the lines.
+-- its passes counted one accepted answer for each of them. The moments of accepted answers to stations' texts and of
+-- boards in browsers, and the console's answers, belong to this list. The boards are what `replay` answers behind the
+-- front and the lines.
 pub record IsItsScript (front : List ℕ) (sites : List SitePlan) (stations : List StationPlan) (firsts : List Cell) (before : Option (List ℕ)) (left : Left) (tells : List Entry → Type 0) : Type 0 where
   pub log : List Entry
   pub written : IsWritten left.broken before left.now left.buffer log
@@ -75,6 +94,8 @@ pub record IsItsScript (front : List ℕ) (sites : List SitePlan) (stations : Li
   pub accepted : AreAccepted stations firsts log
   pub each : AreLeftFrom stations firsts cells log
   pub given : AreGiven firsts log left.passes
+  pub texts : AreTextAnswers (contents_of firsts) log
+  pub browsed : AreBrowsedBoards sites stations (contents_of firsts) log
   pub told : tells log
   pub ended : Shows (after (front ++ text_of log)) sites stations cells
   pub shown : AreAnswers (after (front ++ text_of log)) sites left.boards
@@ -116,12 +137,14 @@ pub record IsRestoredRun (allows : Bool) (input before : Option (List ℕ)) (lef
 abbrev pub IsRefused : Option (List ℕ) → (List ℕ → Type 0) → Type 0
 IsRefused input why = (read last : List ℕ) × Begins input (read ++ last) × IsListen last × why read
 
--- A desk with a journal at its close, with its boards and its passes, and the console's answers, which belong to its
--- list of lines.
+-- A desk with a journal at its close, with its boards and its passes, and the answers that belong to its list of lines:
+-- those to stations' texts, the boards in browsers, and the console's.
 pub record IsEnded (name : ℕ → List ℕ) (first : ℕ → Content) (before : Option (List ℕ)) (sites : List SitePlan) (stations : List StationPlan) (left : Left) (tells : List Entry → Type 0) : Type 0 where
   pub cells : List Cell
   pub seen : List (List Entry)
   pub written : IsWrittenDown name first before left.broken left.now left.buffer cells seen
+  pub texts : AreTextAnswers first written.log
+  pub browsed : AreBrowsedBoards sites stations first written.log
   pub told : tells written.log
   pub given : (k : ℕ) (c : Cell) → slice_get cells k ≡ Some c → c.content.changes ≡ changes_of k left.passes
   pub count : length cells ≡ length stations

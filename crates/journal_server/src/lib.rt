@@ -1,4 +1,4 @@
-//! A live server that writes a journal: a crash loses nothing that was answered.
+//! A live server that writes a journal: the line of each accepted change.
 //!
 //! [`serve_journalled`] serves a plan's stations by [`live_server`], over a desk with a journal
 //! ([`KeptDesk`](kept_desk::KeptDesk)): it writes the line of a change before the answer goes out. The journal is a
@@ -12,9 +12,10 @@
 //! are the answers to `board <site>` behind one script, which is what it read and wrote. Behind its front that script
 //! is the text of one list of lines. Each line was accepted at the content to which the earlier lines of its station
 //! lead. Each station's own lines lead to its content, and its passes counted as many accepted answers as it has lines.
-//! The console took the lines of the ports and the answers to its operator's lines (`IsToldOf`): what was accepted is
-//! in that list, and a board is that of a front of it. Tests show that lines are out before their replies, and what is
-//! left after a kill.
+//! The console took the lines of the ports and the answers to its operator's lines (`IsToldOf`): each answer to a
+//! message or a command, but ChangesExhausted, is the ledger's behind a front of that list, and a board is that of such
+//! a front. So are the moments of stations' answers and of boards in browsers. Tests show that lines are out before
+//! their replies, and what is left after a kill.
 //!
 //! ```text
 //! serve_journalled(rt, &plan, journalling, stdin, stdout, stderr, lines)?    // standard output is the journal

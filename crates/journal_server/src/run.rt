@@ -1,10 +1,11 @@
 //! A server with a journal, from its desk to its boards.
-ghost use Rattle.std.{specs.Prelude.{◌≡◌, ◌<◌, ℕ, List, [], None, All, IfOk, IsOk, OnOk, length}, specs.Io.Buffered.{writer_buffer, writer_inner}};
-ghost use Rattle.kept_desk.specs.Opened.{contents_of, names_of};
+ghost use Rattle.std.{specs.Prelude.{◌≡◌, ◌<◌, ◌++◌, ℕ, List, [], None, All, IfOk, IsOk, OnOk, length}, specs.Io.Buffered.{writer_buffer, writer_inner}};
+ghost use Rattle.kept_desk.{specs.Opened.{contents_of, names_of}, specs.Kept.AreBoardsBehind};
 ghost use Rattle.site_book.{specs.Tables.{HasTable, NamedBy}, specs.Prefix.IsPrefix};
 ghost use Rattle.site_desk.{specs.Parts.AreNewCells, specs.Plan.plan_fault, specs.Roster.{AreCellsOf, AreNewPlaces}};
-ghost use Rattle.live_server.specs.Told.{operator_input};
-ghost use Rattle.journal_server.{specs.Left.left_of, specs.Served.{IsEnded, IsItsScript, Leaves, TellsNew}};
+ghost use Rattle.live_server.{specs.Browsing.IsSeenWithBoards, specs.Told.operator_input};
+ghost use Rattle.journal_server.{specs.Left.left_of, specs.Served.{IsEnded, IsItsScript, IsKeptAnswer, Leaves, TellsNew}};
+ghost use Rattle.station_link.specs.Attended.{IsAnswered};
 
 use crate::serve::Journalling;
 use crate::serving::Serving;
@@ -212,6 +213,14 @@ fn seen_of<M: Drop>(
     }
 }
 
+// These moments, and those behind them.
+fn with_more<M: Drop>(mut seen: Vec<M>, mut more: Vec<M>) -> Result<Vec<M>, AllocError>
+    ensures { IfOk result (λ all. all.items ≡ seen.items ++ more.items) }
+{
+    seen.append(&mut more)?;
+    Ok(seen)
+}
+
 // Closes a desk with a journal after its sessions have ended, and makes the board of each site, in the plan's
 // order.
 fn end_run<J: Naming + Send + Sync, K: Opening + Send + Sync, W: Output, T: Output, R: Threads>(
@@ -224,10 +233,14 @@ fn end_run<J: Naming + Send + Sync, K: Opening + Send + Sync, W: Output, T: Outp
     requires opened { AreNewPlaces plan.now.sites.items plan.now.stations.items kept.stations }
     requires sites { kept.sites ≡ length plan.now.sites.items }
     requires faultless { plan_fault plan.now.sites.items plan.now.stations.items ≡ None }
+    requires answered { All (IsAnswered (IsKeptAnswer K.first)) ran.answers.items }
+    requires browsed { All (IsSeenWithBoards (AreBoardsBehind K.first kept.stations)) ran.boards.items }
     ensures { IfOk result (λ s. IsEnded K.name K.first K.before plan.now.sites.items plan.now.stations.items (left_of W.contents s)
         (λ log. (s.console ≡ ran.output) × OnOk s.ended (IsOk ran.ended) × IfOk ran.ended (λ seen. All (λ m. IsPrefix m log) seen.items))) }
 {
-    let (ended, moments) = seen_of(alloc, ran.ended);
+    let (ended, seen) = seen_of(alloc, ran.ended);
+    let more = with_more(seen, ran.answers)?;
+    let moments = with_more(more, ran.boards)?;
     let mut boards = Vec::new(alloc);
     let closed = match kept.close(ran.passes, ran.viewers, moments) {
         Ok(closed) => closed,

@@ -61,7 +61,7 @@ impl<J: Naming + Send + Sync, K: Opening + Send + Sync, W: Write + Drop> Deliver
 
     ghost gives = { IsKeptAnswer K.first };
 
-    #[tactic(auto, using(crate::proofs::Submitted::nothing_more))]
+    #[tactic(auto, using(crate::proofs::Submitted::nothing_more, crate::proofs::Submitted::gives_nothing))]
     fn deliver<G: Gate, R: Wait + Clock>(
         &self,
         rt: &R,
@@ -103,7 +103,7 @@ impl<J: Naming + Send + Sync, K: Opening + Send + Sync, W: Write + Drop> Serves
         self.kept.desk()
     }
 
-    #[tactic(auto, using(crate::proofs::Submitted::settles_nothing))]
+    #[tactic(auto, using(crate::proofs::Submitted::settles_nothing, crate::proofs::Submitted::gives_nothing))]
     fn command<R: Wait + Clock>(
         &self,
         rt: &R,

@@ -1,6 +1,6 @@
 use Rattle.std.specs.Prelude.{◌≡◌, ℕ, ◌+◌, ◌≤◌, Bool, List, [], ◌∷◌, ◌++◌, Option, All, map, length, None, Some, slice_get}
 use Rattle.kept_desk.{specs.declared.entry.Entry.Entry, specs.Entries.of_station, specs.Journal.{IsWritten, OwnEntries}, specs.Speaking.AreSpoken}
-use Rattle.ledger_model.{specs.declared.answer.Answer.Answer, specs.declared.answer.Answer.TheVariants.{Accepted, Repeat, Refused}, specs.declared.command.Command.Command, specs.Admissible.IsAdmissible, specs.Board.{Board, board_by}, specs.Content.{Content, entries}, specs.Laws.{AreAccepted, left_by}, specs.Limits.Bounds, specs.Step.answer}
+use Rattle.ledger_model.{specs.declared.answer.Answer.Answer, specs.declared.answer.Answer.TheVariants.{Accepted, Repeat, Refused}, specs.declared.answer.Refusal.TheVariants.ChangesExhausted, specs.declared.command.Command.Command, specs.Admissible.IsAdmissible, specs.Board.{Board, board_by}, specs.Content.{Content, entries}, specs.Laws.{AreAccepted, left_by}, specs.Limits.Bounds, specs.Step.answer}
 use Rattle.site_book.{specs.Book.Known, specs.Prefix.IsPrefix}
 use Rattle.site_desk.{specs.declared.roster.StationPlace.StationPlace, specs.Operator.before_at, specs.Submit.IsTakenAt, specs.Cell.{Cell, IsInService}}
 
@@ -82,11 +82,24 @@ pub record IsGiven (at : StationPlace) (first : Content) (n : ℕ) (e : Entry) (
   pub left : IsLeftFrom at.limits first before (commands_of (of_station e.station log))
   pub taken : IsTakenAt at before e.command n told
 
--- An accepted answer comes with the moment of this entry, any other without one.
+-- The command gets this answer at the content to which the commands of these entries, each accepted, lead from the
+-- first one.
+pub record IsAnsweredBehind (limits : Bounds) (first : Content) (entries : List Entry) (command : Command) (a : Answer) : Type 0 where
+  pub before : Content
+  pub left : IsLeftFrom limits first before (commands_of entries)
+  pub answered : answer limits before command ≡ a
+
+-- An answer that changed nothing comes with a moment: the entries of the command's station in it lead to the content
+-- that gives this answer. Only ChangesExhausted may come without one.
+abbrev pub IsUnmoved : StationPlace → Content → Answer → Entry → Option (List Entry) → Type 0
+IsUnmoved at first a e None = a ≡ Refused ChangesExhausted
+IsUnmoved at first a e (Some moment) = IsAnsweredBehind at.limits first (of_station e.station moment) e.command a
+
+-- What comes with an answer: after an accepted command the moment of this entry.
 abbrev pub IsReceived : StationPlace → Content → Answer → Entry → Option Known → Option (List Entry) → Type 0
 IsReceived at first (Accepted n) e told moment = IsGiven at first n e told moment
-IsReceived at first Repeat e told moment = moment ≡ None
-IsReceived at first (Refused why) e told moment = moment ≡ None
+IsReceived at first Repeat e told moment = IsUnmoved at first Repeat e moment
+IsReceived at first (Refused why) e told moment = IsUnmoved at first (Refused why) e moment
 
 -- This entry was added to a list. The share had its station's entries in that list, and the moment is of the
 -- list with this entry.
@@ -94,9 +107,3 @@ pub record IsNoted (share : OwnEntries) (e : Entry) (moment : List Entry) : Type
   pub log : List Entry
   pub own : share.entries ≡ of_station share.station log
   pub received : moment ≡ log ++ e ∷ []
-
--- The moment that comes with this answer, if it is accepted.
-abbrev pub given_with : Answer → List Entry → Option (List Entry)
-given_with (Accepted n) moment = Some moment
-given_with Repeat moment = None
-given_with (Refused why) moment = None

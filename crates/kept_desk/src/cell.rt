@@ -1,7 +1,7 @@
-ghost use Rattle.std.specs.Prelude.{◌≡◌, List, [], ◌∷◌, ◌++◌, length, IfOk};
-ghost use Rattle.kept_desk.{specs.Entries.{IsNote, bytes_of, entry, of_station}, specs.Kept.{IsLeftOwn, IsReceived, KeepsCell, given_with}, specs.Speaking.SpeaksOf};
-ghost use Rattle.ledger_model.specs.Laws.{IsAccepted};
-ghost use Rattle.site_desk.{specs.Cell.IsInService, specs.Settle.cell_after, specs.Submit.{CanJudge, Submitted, TellsOf}};
+ghost use Rattle.std.specs.Prelude.{◌≡◌, List, [], ◌∷◌, ◌++◌, length, IfOk, IfSome, None, Some};
+ghost use Rattle.kept_desk.{specs.Entries.{IsNote, bytes_of, entry, of_station}, specs.Kept.{IsLeftOwn, IsReceived, KeepsCell}, specs.Speaking.SpeaksOf};
+ghost use Rattle.ledger_model.{specs.declared.answer.Answer.Answer, specs.declared.answer.Refusal.Refusal, specs.Laws.IsAccepted};
+ghost use Rattle.site_desk.{specs.Cell.{IsInService, no_station}, specs.Settle.cell_after, specs.Submit.{CanJudge, Submitted, TellsOf}};
 ghost use Rattle.station_ledger.specs.Judged.{IsJudged};
 
 use crate::broken::Broken;
@@ -90,7 +90,7 @@ impl<K: Opening> KeptCell<K> {
     }
 
     // Submits a command of a pass. If the ledger would accept it, its line is written first. A line that
-    // can't be written changes nothing.
+    // can't be written changes nothing. Any other answer comes with the journal's moment.
     pub(crate) fn submit<J: Naming, W: Write + Drop, R: Wait>(
         &mut self,
         rt: &R,
@@ -112,8 +112,11 @@ impl<K: Opening> KeptCell<K> {
                 let judged = Judged { command, judgement };
                 self.submit_written(rt, book, at, pass, judged, way)
             }
-            Answer::Repeat => (Answer::Repeat, None, None),
-            Answer::Refused(why) => (Answer::Refused(why), None, None),
+            Answer::Repeat => (Answer::Repeat, None, Some(way.look(rt, &mut self.share))),
+            Answer::Refused(why) => {
+                let moment = way.look(rt, &mut self.share);
+                (Answer::Refused(why), None, Some(moment))
+            }
         }
     }
 
@@ -135,36 +138,31 @@ impl<K: Opening> KeptCell<K> {
         ensures submitted { Submitted at.entry.place.now pass.old judged.command result.0 pass.new result.1 }
         ensures received { IsReceived at.entry.place.now (K.first at.entry.number) result.0 (entry at.entry.number way.now.note.now (bytes_of way.now.line) judged.command) result.1 result.2 }
     {
-        match way.write(rt, &mut self.share, &judged.command) {
-            Ok(moment) => with_moment(
-                settle_written(rt, &mut self.cell, book, at, pass, judged),
-                moment,
-            ),
-            Err(Broken) => (Answer::Refused(Refusal::ChangesExhausted), None, None),
-        }
+        let Ok(moment) = way.write(rt, &mut self.share, &judged.command) else {
+            return (Answer::Refused(Refusal::ChangesExhausted), None, None);
+        };
+        let settled = settle_written(rt, &mut self.cell, book, at, pass, judged);
+        with_moment(settled, moment)
     }
 }
 
-// The answer with the book's `Told`, and with the moment if the command was accepted.
+// The answer to a command whose line was written, with the moment if it was accepted.
 fn with_moment<J: Naming, K: Opening>(
-    settled: (Answer, Option<Told<J>>),
+    settled: Option<(u64, Option<Told<J>>)>,
     moment: Moment<K>,
 ) -> (Answer, Option<Told<J>>, Option<Moment<K>>)
-    ensures answer { result.0 ≡ settled.0 }
-    ensures told { result.1 ≡ settled.1 }
-    ensures moment { result.2 ≡ given_with settled.0 moment }
+    ensures accepted { IfSome settled (λ s. (result.0 ≡ Answer.Accepted s.0) × (result.1 ≡ s.1) × (result.2 ≡ Some moment)) }
+    ensures other { settled ≡ None → (result.0 ≡ Answer.Refused Refusal.ChangesExhausted) × (result.1 ≡ None) × (result.2 ≡ None) }
 {
-    let (answer, told) = settled;
-    match answer {
-        Answer::Accepted(n) => (Answer::Accepted(n), told, Some(moment)),
-        Answer::Repeat => (Answer::Repeat, told, None),
-        Answer::Refused(why) => (Answer::Refused(why), told, None),
+    match settled {
+        Some((n, told)) => (Answer::Accepted(n), told, Some(moment)),
+        None => (Answer::Refused(Refusal::ChangesExhausted), None, None),
     }
 }
 
-// Settles a command after its line was written, under the lock of the site's book. If the book is not as
-// it should be, which no run with fewer than 2^62 accepted changes of a site meets, the cell leaves
-// service: its lines no longer lead to what it holds.
+// Settles a command after its line was written, under the lock of the site's book, and returns the number of the
+// change. If it can't be settled, as when the book is not as it should be, which no run with fewer than 2^62 accepted
+// changes of a site meets, the cell leaves service: its lines no longer lead to what it holds.
 fn settle_written<J: Naming, R: Wait>(
     rt: &R,
     cell: &mut StationCell,
@@ -172,19 +170,35 @@ fn settle_written<J: Naming, R: Wait>(
     at: Located<'_>,
     pass: &mut Pass,
     judged: Judged,
-) -> (Answer, Option<Told<J>>)
+) -> Option<(u64, Option<Told<J>>)>
     requires can { CanJudge at.number at.place.now cell.old pass.old }
     requires judged { IsJudged cell.old.limits cell.old.content judged.command judged.judgement.answer }
     ensures settled { IsInService cell.new → cell.new ≡ cell_after cell.old pass.old judged.command }
-    ensures tells { TellsOf at.entry.place.now cell.old.content judged.command result.0 result.1 }
-    ensures submitted { Submitted at.entry.place.now pass.old judged.command result.0 pass.new result.1 }
+    ensures tells { IfSome result (λ r. TellsOf at.entry.place.now cell.old.content judged.command (Answer.Accepted r.0) r.1) }
+    ensures submitted { IfSome result (λ r. Submitted at.entry.place.now pass.old judged.command (Answer.Accepted r.0) pass.new r.1) }
+    ensures unchanged { result ≡ None → pass.new ≡ pass.old }
 {
     let Judged { command, judgement } = judged;
-    match settle_at(rt, cell, book, at, pass, command, judgement) {
-        Some(settled) => settled,
-        None => {
-            cell.retire();
-            (Answer::Refused(Refusal::ChangesExhausted), None)
+    let Some((answer, told)) = settle_at(rt, cell, book, at, pass, command, judgement) else {
+        leave_service(cell);
+        return None;
+    };
+    match answer {
+        Answer::Accepted(n) => Some((n, told)),
+        Answer::Repeat => {
+            leave_service(cell);
+            None
+        }
+        Answer::Refused(_why) => {
+            leave_service(cell);
+            None
         }
     }
+}
+
+// A cell whose written line was not settled leaves service.
+fn leave_service(cell: &mut StationCell)
+    ensures { cell.new ≡ record cell.old { station = no_station } }
+{
+    cell.retire();
 }

@@ -135,7 +135,8 @@ impl<J: Naming, K: Opening, W: Write + Drop> KeptDesk<J, K, W> {
     /// written, and then every later command that would be accepted. It answers, too, if the site's book is
     /// not as it should be behind a written line, which no run with fewer than 2^62 accepted changes of a
     /// site meets; then the station's cell leaves service, and the desk doesn't close over it. An accepted
-    /// answer comes with the journal's moment at which the line's entry was the last one.
+    /// answer comes with the journal's moment at which the line's entry was the last one; a repeat or a refusal
+    /// with the moment at which it was given.
     ///
     /// Conditions: in front of the line is nothing or a comment line, which is written with it
     /// ([`is_note`](crate::is_note) tests it), and the line speaks for the command on the pass's station.

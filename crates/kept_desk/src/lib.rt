@@ -2,10 +2,10 @@
 //!
 //! A [`KeptDesk`] is a [`Desk`](site_desk::Desk) that keeps, beside each station's cell, the station's
 //! [`Share`](crate::Share) of one [`Journal`](crate::Journal). Cell and share are under the station's lock
-//! ([`KeptCell`]), and the journal is under a lock of its own. [`KeptDesk::submit`] takes the station's lock and, if
-//! the ledger would accept the command, the journal's. It writes and flushes the line that the caller gives, and a
+//! ([`KeptCell`]), and the journal is under a lock of its own. [`KeptDesk::submit`] takes the station's lock and the
+//! journal's. If the ledger would accept the command, it writes and flushes the line that the caller gives, and a
 //! comment line in front of it if the caller gives one. Then it gives the journal's lock back, takes the site's, and
-//! settles. So a write holds up its own station and other writes, and nobody else at the site. A journal that can't be
+//! settles. So a write holds up other commands and boards, and no totals of other stations. A journal that can't be
 //! written accepts nothing more. What any desk shows while it runs is read through [`KeptDesk::desk`].
 //!
 //! The crate's contract: whenever a station's lock is free, the commands of the station's own lines in the journal,
@@ -14,10 +14,11 @@
 //! there. [`KeptDesk::close`] says this of all stations at once: there is one list of entries; the writer took its
 //! text; each station's own entries, and no others, lead to its ledger's content; each entry's line asks for its
 //! command on the station of its name, as a line of a script does (`specs/Speaking.antt`). The contract of `submit` is
-//! that of [`Desk::submit`](site_desk::Desk::submit), word for word; and an accepted answer comes with a [`Moment`] of
-//! the journal: the entries that it had then, with just this line's as the last. The boards of a site come with the
-//! moment that they show ([`KeptDesk::site_boards`]). The entries of each moment are the first of those in the
-//! contract of `close`.
+//! that of [`Desk::submit`](site_desk::Desk::submit), word for word; and each answer but ChangesExhausted comes with a
+//! [`Moment`] of the journal: the entries that it had then. After an accepted command its line is the last of them;
+//! with a repeat or a refusal the station's entries among them lead to the content that gives this answer. The boards
+//! of a site come with the moment that they show ([`KeptDesk::site_boards`]). The entries of each moment that `close`
+//! gets are the first of those in its contract.
 //!
 //! The journal is a type of its own below the desk, and knows nothing of ledgers. A [`Journal`] writes lines for
 //! stations. [`Journal::add`] writes and flushes one line, and then notes it as an [`Entry`] with its command, in the

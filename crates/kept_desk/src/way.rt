@@ -1,6 +1,6 @@
 //! How a desk with a journal takes a command.
 ghost use Rattle.std.specs.Prelude.{◌≡◌, List, ◌++◌, ◌∷◌, [], IfOk, OnOk, OnErr};
-ghost use Rattle.kept_desk.{specs.declared.entry.Entry.Entry, specs.Entries.{IsNote, bytes_of, entry}, specs.Kept.IsNoted, specs.Speaking.SpeaksOf};
+ghost use Rattle.kept_desk.{specs.declared.entry.Entry.Entry, specs.Entries.{IsNote, bytes_of, entry, of_station}, specs.Kept.IsNoted, specs.Speaking.SpeaksOf};
 ghost use Rattle.ledger_model.specs.declared.command.Command.{Command};
 
 use crate::broken::Broken;
@@ -41,6 +41,17 @@ impl<'a, K: Opening, W: Write + Drop> Journalled<'a, K, W> {
     {
         let mut log = hold(rt, self.log);
         log.add(share, self.note, self.line, command)
+    }
+
+    // The journal's moment now: it has all entries of the share, and no others of its station.
+    pub(crate) fn look<R: Wait>(&self, rt: &R, share: &mut Share<K>) -> Moment<K>
+        ensures own { share.old.entries ≡ of_station share.old.station result }
+        ensures same { share.new ≡ share.old }
+    {
+        let mut guard = hold(rt, self.log);
+        let log: &mut Journal<K, W> = &mut guard;
+        log.compare(share);
+        log.moment()
     }
 }
 

@@ -1,3 +1,4 @@
 mod Asking
 pub mod Browsing
 pub mod Told
+mod Appended

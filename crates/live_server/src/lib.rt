@@ -30,6 +30,7 @@ mod request;
 mod seats;
 mod service;
 mod session;
+mod session_answers;
 mod shared;
 mod watch;
 mod workers;

@@ -1,21 +1,24 @@
 //! A live server at a desk that the caller hands in.
-ghost use Rattle.std.{specs.Prelude.{◌≤◌, IfOk, sum_by}, specs.Thread.{IsSend, IsSync}};
+ghost use Rattle.std.{specs.Prelude.{◌≡◌, ◌≤◌, All, IfOk, IfSome, sum_by}, specs.Thread.{IsSend, IsSync}};
 ghost use Rattle.ledger_model.specs.Ranges.{most_plan_readings};
 ghost use Rattle.site_desk.specs.Roster.{AreNewPlaces};
-ghost use Rattle.live_server.specs.Told.{Tells, operator_input};
+ghost use Rattle.station_link.specs.Attended.{IsAnswered};
+ghost use Rattle.live_server.{specs.Browsing.IsSeenWithBoards, specs.Told.{Tells, operator_input}};
 ghost use Rattle.running_desk.{specs.Ordered.lines_in, specs.Replies.AddsReplies};
 
 use crate::acceptor::{Acceptor, Acceptors};
+use crate::boards::SeenWithBoards;
 use crate::shared::{Shared, Viewers};
 use core::thread::{Anything, Stack};
 use running_desk::{Host, Input, Output, Running, Serves, ServiceFault};
 use site_book::Viewer;
 use site_desk::{Pass, Plan};
 use station_link::Delivers;
+use std::alloc::Global;
 use std::net::TcpListener;
 use std::sync::atomic::Ordering;
 use std::thread;
-use std::thread::Scope;
+use std::thread::{PromisedHandle, Scope, Threads};
 
 // The stack of a session's thread, in bytes of address space.
 const SESSION_STACK: usize = 8 * 1024 * 1024;
@@ -58,6 +61,10 @@ pub struct Ran<S: Serves, W: Output> {
     pub passes: Vec<Pass>,
     /// The viewers.
     pub viewers: Vec<Viewer<S::Names>>,
+    /// What came with the answers of sessions.
+    pub answers: Vec<S::Seen>,
+    /// What was seen of the desk's journal with the boards in browsers.
+    pub boards: Vec<S::Seen>,
     /// How the operator's lines ended, or why no connection was served; after Ok, what was seen of the desk's journal
     /// with the answers to these lines.
     pub ended: Result<Vec<S::Seen>, ServiceFault>,
@@ -85,25 +92,34 @@ pub fn serve_plan_at<S: Serves + Sync, R: Host, I: Input, W: Output, L: Output>(
 ) -> Result<Ran<S, W>, ServiceFault>
     requires opened { AreNewPlaces run.plan.now.sites.items run.plan.now.stations.items (S.roster serves.now).stations }
     requires readings { sum_by (λ s. s.limits.readings) run.plan.now.stations.items ≤ most_plan_readings }
-    ensures { IfOk result (λ r. IfOk r.ended (λ seen. Tells S.gives (S.shows serves.now) run.entry.plan.now.sites.items (S.roster serves.now).stations
+    ensures answered { IfOk result (λ r. All (IsAnswered S.gives) r.answers.items) }
+    ensures boards { IfOk result (λ r. All (IsSeenWithBoards (S.shows serves.now)) r.boards.items) }
+    ensures tells { IfOk result (λ r. IfOk r.ended (λ seen. Tells S.gives (S.shows serves.now) run.entry.plan.now.sites.items (S.roster serves.now).stations
         (lines_in (operator_input run.entry.live.connections (I.remaining input.old))) (W.contents output) (W.contents r.output) seen.items)) }
 {
     let (rt, live) = (run.rt, run.live);
     let acceptors = Acceptors::open(rt, run.listener, live, &mut output)?;
     let running = Running::open(rt, rt.alloc(), run.plan, serves, passes);
     let shared = Shared::open(running, live, lines)?;
-    let (ended, viewers, output) = serve_beside(&shared, &acceptors, viewers, input, output);
+    let (ended, boards, viewers, output) = serve_beside(
+        &shared, &acceptors, viewers, input, output,
+    );
+    let (passes, answers) = shared.into_parts();
     Ok(Ran {
-        passes: shared.into_passes(),
+        passes,
         viewers,
+        answers,
+        boards,
         ended,
         output,
     })
 }
 
-// The result at the end of the threads: how the operator's lines ended, the viewers, and the output.
+// The result at the end of the threads: how the operator's lines ended, what was seen with boards in browsers, the
+// viewers, and the output.
 type Ended<S, W> = (
     Result<Vec<<S as Delivers>::Seen>, ServiceFault>,
+    Vec<<S as Delivers>::Seen>,
     Viewers<S>,
     W,
 );
@@ -116,8 +132,9 @@ fn serve_beside<S: Serves + Sync, R: Host, I: Input, W: Output, L: Output>(
     input: &mut I,
     output: W,
 ) -> Ended<S, W>
-    ensures { IfOk result.0 (λ seen. AddsReplies S.gives (S.shows shared.now.running.serves.now) shared.now.running.plan.now.sites.items shared.now.running.desk.now.stations
-        (lines_in (operator_input shared.now.live.connections (I.remaining input.old))) (W.contents output) (W.contents result.2) seen.items) }
+    ensures tells { IfOk result.0 (λ seen. AddsReplies S.gives (S.shows shared.now.running.serves.now) shared.now.running.plan.now.sites.items shared.now.running.desk.now.stations
+        (lines_in (operator_input shared.now.live.connections (I.remaining input.old))) (W.contents output) (W.contents result.3) seen.items) }
+    ensures boards { All (IsSeenWithBoards (S.shows shared.now.running.serves.now)) result.1.items }
 {
     thread::scope(
         thread::scope_env(),
@@ -125,23 +142,41 @@ fn serve_beside<S: Serves + Sync, R: Host, I: Input, W: Output, L: Output>(
         |scope| -> Ended<S, W>
             requires { IsSync R.row × IsSend S.Names.row × IsSync S.Names.row × IsSend S.Cell.row × IsSend S.Seen.row × IsSync S.row × IsSend L.row }
             ensures { IfOk result.0 (λ seen. AddsReplies S.gives (S.shows shared.entry.now.running.serves.now) shared.entry.now.running.plan.now.sites.items shared.entry.now.running.desk.now.stations
-                (lines_in (operator_input shared.entry.now.live.connections (I.remaining input.entry.now))) (W.contents output) (W.contents result.2) seen.items) }
+                (lines_in (operator_input shared.entry.now.live.connections (I.remaining input.entry.now))) (W.contents output) (W.contents result.3) seen.items)
+                × All (IsSeenWithBoards (S.shows shared.entry.now.running.serves.now)) result.1.items }
         {
             let mut own = output;
             let watching = Stack::new()
                 .stack_size(SMALL_STACK)
                 .spawn_scoped_with(scope, Anything, move || shared.watch(viewers));
-            let is_started = start_all(scope, shared, acceptors);
+            let (is_started, browsing) = start_all(scope, shared, acceptors);
             let ended = answer_lines(shared, is_started, input, &mut own);
             shared.workers.closing.store(true, Ordering::SeqCst);
             acceptors.call_away(shared.rt);
+            let boards = seen_with_boards(shared.rt, shared.alloc, shared.running.serves, browsing);
             let viewers = match watching {
                 Ok(watching) => watching.join(shared.rt),
                 Err(refused) => (refused.value)(),
             };
-            (ended, viewers, own)
+            (ended, boards, viewers, own)
         },
     )
+}
+
+// What was seen with boards in browsers, once their thread has ended.
+fn seen_with_boards<S: Serves, R: Threads>(
+    rt: &R,
+    alloc: Global,
+    serves: &S,
+    browsing: Option<Browsing<S>>,
+) -> Vec<S::Seen>
+    requires { IfSome browsing (λ h. h.promise.0.value ≡ serves.now) }
+    ensures { All (IsSeenWithBoards (S.shows serves.now)) result.items }
+{
+    match browsing {
+        Some(browsing) => browsing.join(rt),
+        None => Vec::new(alloc),
+    }
 }
 
 // Answers the operator's lines to their end, or waits until as many connections have ended as it serves. Without all
@@ -165,21 +200,27 @@ fn answer_lines<S: Serves, R: Host, I: Input, W: Output, L: Output>(
     }
 }
 
-// Starts the threads at both acceptors, and returns whether all could start.
+// The thread that answers browsers.
+type Browsing<S> = PromisedHandle<Vec<<S as Delivers>::Seen>, SeenWithBoards<S>>;
+
+// Starts the threads at both acceptors. Returns whether all could start, and the thread that answers browsers.
 fn start_all<'s, E: 's, S: Serves + Sync, R: Host, L: Output>(
     scope: &'s Scope<'s, E>,
     shared: &'s Shared<'_, S, R, L>,
     acceptors: &'s Acceptors,
-) -> bool {
+) -> (bool, Option<Browsing<S>>)
+    ensures { IfSome result.1 (λ h. h.promise.0.value ≡ shared.now.running.serves.now) }
+{
     for worker in 0..shared.workers.marks.len() {
         if !start_worker(scope, shared, &acceptors.stations, worker) {
-            return false;
+            return (false, None);
         }
     }
-    match &acceptors.browsers {
-        Some(acceptor) => start_boards(scope, shared, acceptor),
-        None => true,
-    }
+    let Some(acceptor) = &acceptors.browsers else {
+        return (true, None);
+    };
+    let browsing = start_boards(scope, shared, acceptor);
+    (acceptor.is_entered(browsing.is_some()), browsing)
 }
 
 // Starts a worker, and returns whether it could start.
@@ -200,14 +241,24 @@ fn start_worker<'s, E: 's, S: Serves + Sync, R: Host, L: Output>(
     acceptor.is_entered(started.is_ok())
 }
 
-// Starts the thread that answers browsers, and returns whether it could start.
+// Starts the thread that answers browsers; none if it can't start.
 fn start_boards<'s, E: 's, S: Serves + Sync, R: Host, L: Output>(
     scope: &'s Scope<'s, E>,
     shared: &'s Shared<'_, S, R, L>,
     acceptor: &'s Acceptor,
-) -> bool {
-    let started = Stack::new()
-        .stack_size(SMALL_STACK)
-        .spawn_scoped_with(scope, Anything, move || shared.serve_boards(acceptor));
-    acceptor.is_entered(started.is_ok())
+) -> Option<Browsing<S>>
+    ensures { IfSome result (λ h. h.promise.0.value ≡ shared.now.running.serves.now) }
+{
+    let promise = SeenWithBoards::of(shared.running.serves);
+    let started = Stack::new().stack_size(SMALL_STACK).spawn_scoped_with(
+        scope,
+        promise,
+        move || -> Vec<S::Seen>
+            ensures { All (IsSeenWithBoards (S.shows shared.entry.now.running.serves.now)) result.items }
+        { shared.serve_boards(acceptor) },
+    );
+    match started {
+        Ok(browsing) => Some(browsing),
+        Err(_) => None,
+    }
 }

@@ -1,5 +1,7 @@
 //! A worker's connections, from accept to end.
+ghost use Rattle.std.specs.Prelude.{All};
 ghost use Rattle.site_desk.specs.Roster.{IsNamed};
+ghost use Rattle.station_link.specs.Attended.{IsAnswered};
 
 use crate::acceptor::Acceptor;
 use crate::connection::{Connection, ConnectionStream, Patience};
@@ -106,9 +108,13 @@ impl<S: Serves, R: Threads + Wait + Clock, L: Write + Drop> Shared<'_, S, R, L> 
         self.finish(name, before, end);
     }
 
-    // Reports how a session ended, which began with this many changes, and puts its pass back.
-    fn finish(&self, name: &Name, before: u64, end: SessionEnd) {
+    // Reports how a session ended, which began with this many changes, puts its pass back, and keeps what came with its
+    // answers.
+    fn finish(&self, name: &Name, before: u64, end: SessionEnd<S::Seen>)
+        requires { All (IsAnswered S.gives) end.seen.items }
+    {
         let (why, texts, pass) = (end.why, end.texts, end.pass);
+        self.answers.lock(self.rt).add(end.seen);
         if let Some(pass) = pass {
             let changes = pass.changes().saturating_sub(before);
             self.log.tell_ended(self.rt, name, why, texts, changes);

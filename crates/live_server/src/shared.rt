@@ -1,9 +1,11 @@
 //! The values that all threads of a live server share.
-ghost use Rattle.std.specs.Prelude.{◌≡◌, IfOk};
+ghost use Rattle.std.specs.Prelude.{◌≡◌, All, IfOk};
+ghost use Rattle.station_link.specs.Attended.{IsAnswered};
 
 use crate::log::Log;
 use crate::near_limits::NearLimits;
 use crate::service::Live;
+use crate::session_answers::SessionAnswers;
 use crate::workers::Workers;
 use running_desk::{Running, Serves};
 use site_book::Viewer;
@@ -11,6 +13,7 @@ use site_desk::Pass;
 use station_link::Delivers;
 use std::alloc::{AllocError, Global};
 use std::io::Write;
+use std::sync::Mutex;
 
 // The viewers of a desk's totals.
 pub(crate) type Viewers<S> = Vec<Viewer<<S as Delivers>::Names>>;
@@ -25,6 +28,8 @@ pub(crate) struct Shared<'a, S: Serves, R, L: Write + Drop> {
     pub(crate) workers: Workers,
     pub(crate) log: Log<L>,
     pub(crate) near: NearLimits,
+    // What came with the answers of sessions that have ended.
+    pub(crate) answers: Mutex<SessionAnswers<S>>,
 }
 
 impl<'a, S: Serves, R, L: Write + Drop> Shared<'a, S, R, L> {
@@ -46,11 +51,15 @@ impl<'a, S: Serves, R, L: Write + Drop> Shared<'a, S, R, L> {
             workers,
             log: Log::open(lines, live.is_logged),
             near,
+            answers: Mutex::new(SessionAnswers::new(alloc)),
         })
     }
 
-    // All passes in the desk's pool.
-    pub(crate) fn into_passes(self) -> Vec<Pass> {
-        self.running.into_passes()
+    // All passes in the desk's pool, and what came with the answers of sessions.
+    pub(crate) fn into_parts(self) -> (Vec<Pass>, Vec<S::Seen>)
+        ensures { All (IsAnswered S.gives) result.1.items }
+    {
+        let answers = self.answers.into_inner();
+        (self.running.into_passes(), answers.into_seen())
     }
 }

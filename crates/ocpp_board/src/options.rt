@@ -82,7 +82,7 @@ is out before its answer; all else goes to standard error. With --receipt-times 
 before each line: the time at which the server took it, as # 2026-03-01T10:00:00.123456789Z.
 With --restore standard input begins with such a script, up to a line `listen`; the line before
 that has to end with `#`, which spoils what a kill may have left of a line. `left out <line>
-<answer>` tells a line that changed nothing, and `restored <n>` how many changes the stations hold.
+<answer>` reports a line that changed nothing, and `restored <n>` how many changes the stations hold.
 Where such a line is not one that a kill cut, the server ends with `fault LeftOut`, but with
 --allow-left-out.
   ocpp_board serve --live --journal --port 9000 north/CS-01 north/CS-02 >> journal < orders
@@ -91,7 +91,7 @@ Where such a line is not one that a kill cut, the server ends with `fault LeftOu
 
 Exit status: 0; 1 with `fault <name>` (ListenFailed, ReadFault, WriteFault, OutOfMemory,
 Torn, NotRestored, NotMarked, LeftOut, TooMuchInput); 2 for a fault of the arguments, or with `fault BadLimits`, `fault BadStation`,
-`fault PlanLimit` or `fault StationTwice`. A second line tells the cause: the ranges of limits, the word, the station, or
+`fault PlanLimit` or `fault StationTwice`. A second line has the cause: the ranges of limits, the word, the station, or
 the system's words for the port.";
 
 const SIM_EXAMPLE: &str = "\

@@ -12,9 +12,10 @@
 //! The crate's contract is that of `answer_text`: the answer is what the text means at the moment: a ready reply,
 //! silence or, for an event, the reply to an answer that the desk can give to that event's delivery. A desk takes the
 //! delivery, or anything else that [`Delivers`]. All memory is taken before that, so a message that found none changed
-//! nothing. A session gives its pass back, whatever ends it, with at most a million more changes. What the handshake
-//! saw decides whom a session lets in. Tests show what a socket delivered, the paths and the close codes, and what a
-//! simulated station sends: its clauses only count texts and replies.
+//! nothing. A session answers each text message that its socket reads, in order, and writes its reply before it reads on
+//! (`IsAttended`). It gives its pass back, whatever ends it, with at most a million more changes, and hands on what the
+//! desk returned with its answers. What the handshake saw decides whom a session lets in. Tests show the paths and the
+//! close codes, and what a simulated station sends: its clauses only count texts and replies.
 //!
 //! ```text
 //! answer_text(&desk, rt, alloc, &mut pass, text, now, &NoGate);      // Answered { text, outcome, seen, memory }

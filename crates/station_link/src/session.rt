@@ -1,6 +1,7 @@
 //! A session: one connection of a station, from its handshake to its end.
-ghost use Rattle.std.specs.Prelude.{◌≡◌, ◌≢◌, ◌≤◌, ◌<◌, ◌+◌, IsNone, IsSome, IfErr, IfOk, IfSome, None, Some, OnErr, OnOk, length, true};
-ghost use Rattle.station_link.{specs.declared.ending.Why.Why, specs.Answer.reply_of, specs.Attended.{IsAttended, IsSendFault, Point, Takes}, specs.Exchange.{Comes, Sends, Waits}, specs.Session.{MayEnd, MayHavePass, MayLackPass, most_messages}};
+ghost use Rattle.std.specs.Prelude.{◌≡◌, ◌≢◌, ◌≤◌, ◌<◌, ◌+◌, ◌++◌, [], All, IsNone, IsSome, IfErr, IfOk, IfSome, None, Some, OnErr, OnOk, length, slice_get, true, vec_capacity, vec_len};
+ghost use Rattle.site_desk.specs.declared.roster.StationPlace.{StationPlace};
+ghost use Rattle.station_link.{specs.declared.ending.Why.Why, specs.Answer.reply_of, specs.Attended.{IsAnswered, IsAttended, IsSendFault, Point, Takes, if_seen, point}, specs.Exchange.{Comes, Sends, Waits}, specs.Session.{MayEnd, MayHavePass, MayLackPass, most_messages}};
 
 use crate::answer::{Replied, put_answer};
 use crate::attendant::{Attendant, Nobody};
@@ -50,7 +51,7 @@ pub struct Client<'a, S: Read + Write + Drop> {
 
 /// How a session ended.
 #[derive(Drop)]
-pub struct SessionEnd {
+pub struct SessionEnd<M> {
     /// Why it ended.
     pub why: Why,
     /// The pass of its station, if it got one.
@@ -60,10 +61,12 @@ pub struct SessionEnd {
     pub messages: u64,
     /// How many of them were texts, with a reply or without one.
     pub texts: u64,
+    /// What the desk returned with the answers, in their order.
+    pub seen: Vec<M>,
 }
 
 // The end of a session that got no pass.
-fn refused(why: Why) -> SessionEnd
+fn refused<M>(alloc: Global, why: Why) -> SessionEnd<M>
     ensures why { result.why ≡ why }
     ensures pass { result.pass ≡ None }
     ensures messages { result.messages ≡ 0 }
@@ -73,6 +76,7 @@ fn refused(why: Why) -> SessionEnd
         pass: None,
         messages: 0,
         texts: 0,
+        seen: Vec::new(alloc),
     }
 }
 
@@ -85,7 +89,7 @@ pub fn serve_connection<
     S: Read + Write + Drop,
     G: Gate,
     C: MomentSource,
->(rt: &R, alloc: Global, stream: S, desk: &Desk<J>, gate: &G, clock: &mut C) -> SessionEnd
+>(rt: &R, alloc: Global, stream: S, desk: &Desk<J>, gate: &G, clock: &mut C) -> SessionEnd<()>
     ensures lacks { IsNone result.pass → MayLackPass result.why }
     ensures has { IsSome result.pass → MayHavePass result.why }
     ensures station { IfSome result.pass (λ p. p.station < length desk.now.stations) }
@@ -96,7 +100,7 @@ pub fn serve_connection<
     let seen = Cell::new(Seen::Nothing);
     let mut socket = match shake_hands(alloc, stream, Look { seen: &seen }) {
         Ok(socket) => socket,
-        Err(why) => return refused(why),
+        Err(why) => return refused(alloc, why),
     };
     match admit(rt, desk, seen.into_inner()) {
         Ok((name, pass)) => {
@@ -109,7 +113,7 @@ pub fn serve_connection<
         }
         Err(why) => {
             say_goodbye(&mut socket, end_of_refusal(why).code, "");
-            refused(why)
+            refused(alloc, why)
         }
     }
 }
@@ -135,9 +139,11 @@ pub fn serve_session<
     gate: &G,
     clock: &mut C,
     attendant: &A,
-) -> SessionEnd
-    ensures attended { IfSome result.pass (λ p. (last : Point C S) × (last.pass ≡ p) × IsAttended D.gives C.reads S.remaining S.contents (D.stations desk.now)
-        result.why result.texts (record { pass = client.entry.pass; clock = clock.old; socket = client.entry.socket.now }) last) }
+) -> SessionEnd<D::Seen>
+    ensures attended { IfSome result.pass (λ p. (last : Point D.Seen C S) × (last.pass ≡ p) × (last.seen ≡ result.seen.items)
+        × IsAttended D.gives C.reads S.remaining S.contents (D.stations desk.now)
+        result.why result.texts (point client.entry.pass clock.old client.entry.socket.now []) last) }
+    ensures answered { (at : StationPlace) → slice_get (D.stations desk.now) client.entry.pass.station ≡ Some at → All (IsAnswered D.gives) result.seen.items }
     ensures given_back { IsSome result.pass }
     ensures why { MayEnd (A.dismisses attendant.now) result.why }
     ensures station { IfSome result.pass (λ p. p.station ≡ client.entry.pass.station) }
@@ -162,6 +168,7 @@ pub fn serve_session<
         pass: Some(pass),
         messages: ended.messages,
         texts: ended.texts,
+        seen: ended.seen,
     }
 }
 
@@ -184,13 +191,37 @@ pub(crate) fn shake_hands<S: Read + Write + Drop, L: Callback + Drop>(
     }
 }
 
-// The result of all messages: how the session ends, how many messages it took, the last one included, and how
-// many texts.
+// The result of all messages: how the session ends, how many messages it took, the last one included, how many texts,
+// and what the desk returned with the answers.
 #[derive(Drop)]
-struct Ended {
+struct Ended<M> {
     end: Ending,
     messages: u64,
     texts: u64,
+    seen: Vec<M>,
+}
+
+// What a session keeps from text to text: the buffer for replies, and what the desk returned with the answers.
+#[derive(Drop)]
+struct Kept<M> {
+    reply: ArrayString<512>,
+    seen: Vec<M>,
+}
+
+// What a session keeps before its first message, with room for as many answers as it can give; none if there is no
+// memory.
+fn open_kept<M>(alloc: Global) -> Option<Kept<M>>
+    ensures none { IfSome result (λ k. k.seen.items ≡ []) }
+    ensures len { IfSome result (λ k. vec_len k.seen ≡ 0) }
+    ensures room { IfSome result (λ k. vec_capacity k.seen ≡ most_messages) }
+{
+    match Vec::with_capacity(alloc, MAX_MESSAGES as usize) {
+        Ok(seen) => Some(Kept {
+            reply: ArrayString::new(),
+            seen,
+        }),
+        Err(_) => None,
+    }
 }
 
 // Answers message after message until the session ends.
@@ -211,9 +242,9 @@ fn answer_all<
     gate: &G,
     clock: &mut C,
     attendant: &A,
-) -> Ended
+) -> Ended<D::Seen>
     ensures attended { IsAttended D.gives C.reads S.remaining S.contents (D.stations desk.now) result.end.why result.texts
-        (record { pass = pass.old; clock = clock.old; socket = socket.old }) (record { pass = pass.new; clock = clock.new; socket = socket.new }) }
+        (point pass.old clock.old socket.old []) (point pass.new clock.new socket.new result.seen.items) }
     ensures why { MayEnd (A.dismisses attendant.now) result.end.why }
     ensures station { pass.new.station ≡ pass.old.station }
     ensures few { pass.new.changes ≤ pass.old.changes + result.messages }
@@ -221,15 +252,18 @@ fn answer_all<
     ensures most { result.messages ≤ most_messages }
     ensures spent { result.end.why ≡ Why.MessagesSpent → result.messages ≡ most_messages }
 {
-    let mut reply = ArrayString::new();
+    let mut kept = match open_kept(alloc) {
+        Some(kept) => kept,
+        None => return end_at_once(alloc),
+    };
     let mut texts = 0;
     for turn in 0..MAX_MESSAGES {
         let message = match await_message(rt, socket, attendant) {
             Ok(message) => message,
-            Err(end) => return end_after(end, turn + 1, texts),
+            Err(end) => return end_after(end, turn + 1, texts, kept.seen),
         };
         let taken = answer_message(
-            rt, alloc, socket, desk, pass, gate, clock, message, &mut reply,
+            rt, alloc, socket, desk, pass, gate, clock, message, &mut kept,
         );
         match taken {
             Ok(is_text) => {
@@ -238,21 +272,37 @@ fn answer_all<
                     gate.after(rt, name, texts);
                 }
             }
-            Err(end) => return end_after(end, turn + 1, texts),
+            Err(end) => return end_after(end, turn + 1, texts, kept.seen),
         }
     }
     let end = Ending::told(Why::MessagesSpent, CloseCode::Error);
-    end_after(end, MAX_MESSAGES, texts)
+    end_after(end, MAX_MESSAGES, texts, kept.seen)
 }
 
-// The end of a session after this many messages, with this many texts among them.
-fn end_after(end: Ending, messages: u64, texts: u64) -> Ended
-    ensures { result ≡ record { end = end; messages = messages; texts = texts } }
+// The end of a session that found no memory before its first message.
+fn end_at_once<M>(alloc: Global) -> Ended<M>
+    ensures why { result.end.why ≡ Why.OutOfMemory }
+    ensures messages { result.messages ≡ 0 }
+    ensures texts { result.texts ≡ 0 }
+    ensures seen { result.seen.items ≡ [] }
+{
+    Ended {
+        end: Ending::untold(Why::OutOfMemory),
+        messages: 0,
+        texts: 0,
+        seen: Vec::new(alloc),
+    }
+}
+
+// The end of a session after this many messages, with this many texts among them, and with what the desk returned.
+fn end_after<M>(end: Ending, messages: u64, texts: u64, seen: Vec<M>) -> Ended<M>
+    ensures { result ≡ record { end = end; messages = messages; texts = texts; seen = seen } }
 {
     Ended {
         end,
         messages,
         texts,
+        seen,
     }
 }
 
@@ -295,7 +345,8 @@ fn is_tick(error: &Error) -> bool {
     }
 }
 
-// Answers a message that was read, with a buffer for the reply, and returns whether it was a text.
+// Answers a message that was read, and returns whether it was a text. What the desk returned with the answer is added;
+// there is room for it.
 fn answer_message<D: Delivers, R: Wait + Clock, S: Read + Write + Drop, G: Gate, C: MomentSource>(
     rt: &R,
     alloc: Global,
@@ -305,10 +356,13 @@ fn answer_message<D: Delivers, R: Wait + Clock, S: Read + Write + Drop, G: Gate,
     gate: &G,
     clock: &mut C,
     message: Message,
-    reply: &mut ArrayString<512>,
+    kept: &mut Kept<D::Seen>,
 ) -> Result<bool, Ending>
+    requires room { vec_len kept.old.seen < vec_capacity kept.old.seen }
     ensures taken { Takes D.gives C.reads S.remaining S.contents (D.stations desk.now) message result
-        (record { pass = pass.old; clock = clock.old; socket = socket.old }) (record { pass = pass.new; clock = clock.new; socket = socket.new }) }
+        (point pass.old clock.old socket.old kept.old.seen.items) (point pass.new clock.new socket.new kept.new.seen.items) }
+    ensures room { vec_capacity kept.new.seen ≡ vec_capacity kept.old.seen }
+    ensures length { vec_len kept.new.seen ≤ vec_len kept.old.seen + 1 }
     ensures has { IfErr result (λ end. MayHavePass end.why) }
     ensures unspent { IfErr result (λ end. end.why ≢ Why.MessagesSpent) }
     ensures station { pass.new.station ≡ pass.old.station }
@@ -321,10 +375,11 @@ fn answer_message<D: Delivers, R: Wait + Clock, S: Read + Write + Drop, G: Gate,
             let Replied {
                 has_reply,
                 outcome: _,
-                seen: _,
+                seen: own,
                 memory: _,
-            } = put_answer(desk, rt, alloc, pass, text, now, gate, reply);
-            match send_answer(alloc, socket, has_reply, reply) {
+            } = put_answer(desk, rt, alloc, pass, text, now, gate, &mut kept.reply);
+            keep(&mut kept.seen, own);
+            match send_answer(alloc, socket, has_reply, &kept.reply) {
                 Ok(()) => Ok(true),
                 Err(end) => Err(end),
             }
@@ -335,6 +390,18 @@ fn answer_message<D: Delivers, R: Wait + Clock, S: Read + Write + Drop, G: Gate,
             let _ = socket.flush();
             Err(Ending::untold(Why::PeerClosed))
         }
+    }
+}
+
+// Adds what the desk returned with an answer, if it returned anything.
+fn keep<M: Drop>(seen: &mut Vec<M>, own: Option<M>)
+    requires room { vec_len seen.old < vec_capacity seen.old }
+    ensures items { seen.new.items ≡ seen.old.items ++ if_seen own }
+    ensures room { vec_capacity seen.new ≡ vec_capacity seen.old }
+    ensures length { vec_len seen.new ≤ vec_len seen.old + 1 }
+{
+    if let Some(one) = own {
+        seen.push_reserved(one);
     }
 }
 

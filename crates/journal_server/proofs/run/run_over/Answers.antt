@@ -18,6 +18,6 @@ returns g c =
     ended_as _ _ _ _ _ _ sites stations _ _ _ c.requires.names c.requires.first (sym c.requires.before)
     (λ log t. subst (λ o. OnOk s.ended (IsToldOf sites stations (contents_of c.args.desk_parts.cells.items) log coming before (g.T.Write.contents o))) (sym t.0)
     (ended_telling s.ended ran.ended (λ seen. seen.items) sites stations c.args.desk_parts.cells.items _ g.K.Opening.first coming before (g.T.Write.contents ran.output) log
-    c.in_ok-kept.ensures.opened c.requires.first t.1 t.2 c.in_ok-ran.ensures))
+    c.in_ok-kept.ensures.opened c.requires.first t.1 t.2 c.in_ok-ran.ensures.tells))
     h)
     c.end_run.ensures

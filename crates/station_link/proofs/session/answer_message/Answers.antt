@@ -1,5 +1,5 @@
 use Rattle.std.{proofs.Common.{◌≡◌, Err, Ok, refl, rules, subst, sym, true}, specs.Prelude.is_some}
-use Rattle.station_link.{specs.Answer.{Answers, reply_of}, specs.Attended.{Point, Takes}, proofs.Attended.{flushes, is_reply}}
+use Rattle.station_link.{specs.Answer.{Answers, reply_of}, specs.Attended.{Takes, point}, proofs.Attended.{flushes, is_reply}}
 use Rattle.station_link.proofs.session.answer_message.Goals as goal
 
 pub returns-in-Ok-clause-taken : goal.returns-in-Ok-clause-taken
@@ -10,9 +10,7 @@ returns-in-Ok-clause-taken g c =
     let r = a.result in
     let reply = reply_of r.has_reply a.new.reply.bytes in
     let words : c.as_str-text.result.now ≡ c.in-Text.text = search rules in
-    let before : Point g.row.C.Denot g.row.S.Denot = record { pass = c.args.pass.now; clock = c.args.clock.now; socket = c.args.socket.now } in
-    let after : Point g.row.C.Denot g.row.S.Denot = record { pass = a.new.pass; clock = c.present-now.new.clock; socket = c.send_answer.new.socket } in
-    subst (λ m. Takes gives g.C.MomentSource.reads g.S.Read.remaining g.S.Write.contents places m (Ok true) before after) (sym c.in-Text.is) (
+    subst (λ m. Takes gives g.C.MomentSource.reads g.S.Read.remaining g.S.Write.contents places m (Ok true) (point c.args.pass.now c.args.clock.now c.args.socket.now c.args.kept.now.seen.items) (point a.new.pass c.present-now.new.clock c.send_answer.new.socket c.keep.new.seen.items)) (sym c.in-Text.is) (
       refl,
       (
         record {
@@ -23,6 +21,7 @@ returns-in-Ok-clause-taken g c =
           present = c.present-now.ensures;
           answered = subst (λ w. Answers gives places c.args.pass.now w c.present-now.result reply a.new.pass r.seen r.memory) words a.ensures.answers;
           next = a.ensures.next;
+          all = c.keep.ensures.items;
         },
         c.in-Ok.ensures.sent,
       ),
@@ -36,9 +35,8 @@ returns-in-Text-clause-taken g c =
     let r = a.result in
     let reply = reply_of r.has_reply a.new.reply.bytes in
     let words : c.as_str-text.result.now ≡ c.in-Text.text = search rules in
-    let before : Point g.row.C.Denot g.row.S.Denot = record { pass = c.args.pass.now; clock = c.args.clock.now; socket = c.args.socket.now } in
-    let after : Point g.row.C.Denot g.row.S.Denot = record { pass = a.new.pass; clock = c.present-now.new.clock; socket = c.send_answer.new.socket } in
-    subst (λ m. Takes gives g.C.MomentSource.reads g.S.Read.remaining g.S.Write.contents places m (Err c.in-Err.end) before after) (sym c.in-Text.is) (
+    subst (λ m. Takes gives g.C.MomentSource.reads g.S.Read.remaining g.S.Write.contents places m (Err c.in-Err.end) (point c.args.pass.now c.args.clock.now c.args.socket.now c.args.kept.now.seen.items)
+    (point a.new.pass c.present-now.new.clock c.send_answer.new.socket c.keep.new.seen.items)) (sym c.in-Text.is) (
       record {
         moment = c.present-now.result;
         reply = reply;
@@ -47,6 +45,7 @@ returns-in-Text-clause-taken g c =
         present = c.present-now.ensures;
         answered = subst (λ w. Answers gives places c.args.pass.now w c.present-now.result reply a.new.pass r.seen r.memory) words a.ensures.answers;
         next = a.ensures.next;
+        all = c.keep.ensures.items;
       },
       is_reply r.has_reply a.new.reply.bytes c.in-Err.ensures.fault.0,
       c.in-Err.ensures.fault.1,
@@ -54,7 +53,6 @@ returns-in-Text-clause-taken g c =
 
 pub returns-clause-taken : goal.returns-clause-taken
 returns-clause-taken g c =
-    let before : Point g.row.C.Denot g.row.S.Denot = record { pass = c.args.pass.now; clock = c.args.clock.now; socket = c.args.socket.now } in
-    let after : Point g.row.C.Denot g.row.S.Denot = record { pass = c.args.pass.now; clock = c.args.clock.now; socket = c.flush.new.self } in
-    subst (λ m. Takes g.D.Delivers.gives g.C.MomentSource.reads g.S.Read.remaining g.S.Write.contents (g.D.Delivers.stations c.args.desk.now) m (Err c.untold.result) before after) (sym c.in-Close.is)
-    (record { waited = flushes g.S.Read.remaining g.S.Write.contents _ _ c.flush.ensures.sent; pass = refl; clock = refl })
+    subst (λ m. Takes g.D.Delivers.gives g.C.MomentSource.reads g.S.Read.remaining g.S.Write.contents (g.D.Delivers.stations c.args.desk.now) m (Err c.untold.result)
+    (point c.args.pass.now c.args.clock.now c.args.socket.now c.args.kept.now.seen.items) (point c.args.pass.now c.args.clock.now c.flush.new.self c.args.kept.now.seen.items)) (sym c.in-Close.is)
+    (record { waited = flushes g.S.Read.remaining g.S.Write.contents _ _ c.flush.ensures.sent; pass = refl; clock = refl; seen = refl })
