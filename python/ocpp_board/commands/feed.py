@@ -71,7 +71,6 @@ def run(words: argparse.Namespace) -> int:
         if package is None:
             raise
         raise UsageError(f"there is no package for this: apt-get install {package}") from None
-    print("ready", flush=True)
     try:
         source()
     except Stopped:

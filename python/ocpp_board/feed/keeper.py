@@ -37,6 +37,14 @@ class Keeper:
         self.left = 0
         self.reported = time.monotonic()
         self.last_logged = ""
+        self.is_ready = False
+
+    def note_ready(self, place: str, source: str) -> None:
+        """Says that what comes to a queue or a topic is taken: the first time on standard output, too."""
+        log.info("%s: takes what comes to %s", place, source)
+        if not self.is_ready:
+            self.is_ready = True
+            print("ready", flush=True)
 
     def log_once(self, text: str) -> None:
         """Logs something, but not the same twice in a row."""

@@ -4,7 +4,6 @@ The client acknowledges a message of QoS 1 after its callback, so the callback r
 stored one by one. The broker keeps for the client's name what comes while the feed is away.
 """
 
-import logging
 import time
 from typing import Any
 
@@ -15,8 +14,6 @@ from ocpp_board.feed.brokers import read_broker
 from ocpp_board.feed.keeper import Keeper, Stopped
 from ocpp_board.feed.published import is_object, make_message, read_maeve, read_text
 from ocpp_board.records import Message
-
-log = logging.getLogger(__name__)
 
 SCHEMES = {"mqtt": 1883, "mqtts": 8883}
 # Seconds between signs of life, and until a lost broker is tried again.
@@ -58,7 +55,7 @@ class Mqtt:
             who = self.broker.user or "nobody"
             self.fault = UsageError(f"{self.broker.place} does not let {who} read {self.topic}")
         else:
-            log.info("%s: takes what comes to %s", self.broker.place, self.topic)
+            self.keeper.note_ready(self.broker.place, self.topic)
 
     def read(self, message: Any) -> Message | None:
         """The station's text of a message. Raises Refused."""

@@ -1,6 +1,5 @@
 """A queue of RabbitMQ, whose messages are acknowledged once what they change is stored."""
 
-import logging
 import ssl
 import time
 from typing import Any
@@ -13,8 +12,6 @@ from ocpp_board.feed.brokers import Broker, read_broker
 from ocpp_board.feed.keeper import Keeper
 from ocpp_board.feed.published import is_object, make_message, read_citrine, read_text
 from ocpp_board.records import Message
-
-log = logging.getLogger(__name__)
 
 SCHEMES = {"amqp": 5672, "amqps": 5671}
 # Messages that the broker hands out before one is acknowledged: those of a batch.
@@ -97,7 +94,7 @@ class Rabbit:
         channel.basic_qos(prefetch_count=AHEAD)
         channel.queue_declare(self.queue, passive=True)
         channel.basic_consume(self.queue, self.take)
-        log.info("%s: takes what comes to %s", self.broker.place, self.queue)
+        self.keeper.note_ready(self.broker.place, self.queue)
         looked = time.monotonic()
         while not self.keeper.is_ending.is_set():
             connection.process_data_events(time_limit=1.0)
