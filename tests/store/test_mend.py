@@ -13,9 +13,7 @@ import pytest
 
 from ocpp_board.commands import log_to_script
 from ocpp_board.errors import UsageError
-from ocpp_board.messages.message_faults import message_fault
-from ocpp_board.records import Message
-from ocpp_board.sources.mend import (
+from ocpp_board.messages.mend import (
     Mended,
     Mender,
     find_leaves,
@@ -23,6 +21,8 @@ from ocpp_board.sources.mend import (
     group_mends,
     read_mend,
 )
+from ocpp_board.messages.message_faults import message_fault
+from ocpp_board.records import Message
 from ocpp_board.sources.script import read_script
 from ocpp_board.statuses import Status
 from tests.store.converting import read_words

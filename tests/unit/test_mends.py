@@ -6,7 +6,7 @@ from typing import Any
 
 import pytest
 
-from ocpp_board.sources.mend import Mender, read_fault
+from ocpp_board.messages.mend import Mender, read_fault
 
 BEGIN, END = "2026-03-01T10:00:00Z", "2026-03-01T10:30:00Z"
 RECEIVED = datetime(2026, 3, 1, 10, 31, tzinfo=timezone.utc)

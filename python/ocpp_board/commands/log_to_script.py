@@ -47,6 +47,7 @@ from ocpp_board.limits import (
     MOST_SITES,
     MOST_STATIONS,
 )
+from ocpp_board.messages.mend import COMMENT as MENDED, write_comment
 from ocpp_board.messages.texts import Refused
 from ocpp_board.processes import end_without_reader
 from ocpp_board.progress import Progress
@@ -55,7 +56,6 @@ from ocpp_board.sources import forms
 from ocpp_board.sources.files import open_input, read_lines, unpack
 from ocpp_board.sources.forms import Shape, choose_shape
 from ocpp_board.sources.log import LogReader, Read
-from ocpp_board.sources.mend import COMMENT as MENDED, write_comment
 from ocpp_board.sources.script import RECEIVED, UNTAKEN, read_comment, write_moment, write_untaken
 from ocpp_board.sources.stations import (
     DEFAULTS,

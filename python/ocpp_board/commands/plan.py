@@ -166,6 +166,7 @@ def write_stations(store: Database, words: argparse.Namespace, author: Author) -
     if words.most_kw:
         for station in words.stations:
             change_power(store, station, words.most_kw, author, "plan station")
+        print(f"{words.site}: {len(words.stations):,} stations have {words.most_kw} kW at most")
     return report_strays(store, words.stations)
 
 

@@ -5,7 +5,7 @@ from typing import Any
 
 from ocpp_board.commands.plan import add_word
 from ocpp_board.ledger.mending import write_mends
-from ocpp_board.sources.mend import ABOUT
+from ocpp_board.messages.mend import ABOUT
 from ocpp_board.statuses import Status
 from ocpp_board.store.database import Database
 from ocpp_board.store.plan import Author

@@ -31,7 +31,7 @@ from ocpp_board.commands.options import (
 from ocpp_board.errors import UsageError
 from ocpp_board.escapes import csv_cell
 from ocpp_board.ledger.taking import Choice, How, Taken, leave_out, list_waiting, take
-from ocpp_board.sources.mend import ABOUT, read_fault
+from ocpp_board.messages.mend import ABOUT, read_fault
 from ocpp_board.statuses import Status
 from ocpp_board.store.database import Row, open_store
 from ocpp_board.words import pick_options

@@ -8,8 +8,8 @@ from typing import NamedTuple
 
 from ocpp_board.errors import InputError
 from ocpp_board.limits import MOMENT
+from ocpp_board.messages.mend import Fault, Mender, read_fault
 from ocpp_board.records import Answer, Asked, Message
-from ocpp_board.sources.mend import Fault, Mender, read_fault
 from ocpp_board.store.database import Database
 from ocpp_board.store.lines import Warm, find_sites
 from ocpp_board.store.plan import Author, note_change

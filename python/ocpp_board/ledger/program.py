@@ -221,8 +221,8 @@ def find_program(named: str | None = None) -> Program:
         if os.access(path, os.X_OK) and Path(path).is_file():
             return ProcessProgram(path)
     raise ProgramError(
-        f"there is neither {LIBRARY} nor {named or ' or '.join(PROGRAMS)}; install libocpp-ledger, or name a "
-        "program by --program"
+        f"there is neither {LIBRARY} nor {named or ' or '.join(PROGRAMS)}: install libocpp-ledger, run ./start in a "
+        "checkout, or name a program by --program"
     )
 
 

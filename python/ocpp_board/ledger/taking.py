@@ -16,10 +16,10 @@ from ocpp_board.ledger.engine import MENDED, TAKEN, renew_sessions, settle
 from ocpp_board.ledger.mending import make_mender
 from ocpp_board.limits import TRANSACTION
 from ocpp_board.messages.corrected import rename_transaction
+from ocpp_board.messages.mend import Fault, Mended, Mender
 from ocpp_board.messages.meter_values import JSON
 from ocpp_board.messages.times import seconds_of
 from ocpp_board.records import Answer, Asked, Deed, Message
-from ocpp_board.sources.mend import Fault, Mended, Mender
 from ocpp_board.store.database import Database, Row
 from ocpp_board.store.lines import DECIDE, find_sites, read_lines
 from ocpp_board.store.plan import Author

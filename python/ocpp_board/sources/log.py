@@ -13,13 +13,13 @@ from ocpp_board.limits import (
     PAST_MOMENTS,
     is_name,
 )
+from ocpp_board.messages.mend import Mended, Mender
 from ocpp_board.messages.message_faults import OLD_ACTIONS
 from ocpp_board.messages.named import find_named
 from ocpp_board.messages.texts import CALL, Refused, has_moment, is_answer, is_unanswered
 from ocpp_board.messages.times import seconds_of
 from ocpp_board.records import LeftOut, Message, Untaken
 from ocpp_board.sources.forms import Entry, Shape
-from ocpp_board.sources.mend import Mended, Mender
 from ocpp_board.sources.stations import NOT_IN, StationPlan
 
 # Seconds since 1970, or thousandths, millionths or billionths of them, and digits of the greatest whole seconds.

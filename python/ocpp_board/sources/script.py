@@ -14,11 +14,11 @@ from typing import IO, NamedTuple
 
 from ocpp_board.escapes import shown
 from ocpp_board.limits import GREATEST_SEQ_NO, LONGEST_LINE, MOMENT, PERIODS, is_name
+from ocpp_board.messages.mend import COMMENT as MENDED
 from ocpp_board.messages.named import find_named
 from ocpp_board.messages.times import TimeFault, moment_of, seconds_of
 from ocpp_board.records import Deed, Message, Untaken
 from ocpp_board.sources.lines import explain_line, split_words
-from ocpp_board.sources.mend import COMMENT as MENDED
 
 # How the comments begin.
 RECEIVED, OPERATOR, UNTAKEN = b"# received ", b"# operator ", b"# untaken "

@@ -10,10 +10,10 @@ from typing import Any, NamedTuple
 from ocpp_board.errors import UsageError
 from ocpp_board.escapes import shown
 from ocpp_board.limits import GREATEST_LIMITS, MOST_SITES, ORDERS, PERIODS, RULES, is_name
+from ocpp_board.messages.mend import Mends, add_mending, group_mends
 from ocpp_board.messages.texts import Refused
 from ocpp_board.sources.forms import Entry
 from ocpp_board.sources.lines import NAMES, check_name
-from ocpp_board.sources.mend import Mends, add_mending, group_mends
 from ocpp_board.words import pick_options
 
 # How a refusal begins that is of a station which the file of stations lacks.
