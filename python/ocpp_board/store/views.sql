@@ -107,7 +107,7 @@ create view lacking as
     select s.site, s.station, s.transaction_id, s.sent_id, s.evse, s.state, s.missing, s.gaps, s.first_at, s.last_at,
         s.received_until, s.changed_at, s.up - s.down as imported, coalesce(s.received_until, s.last_at) as heard_at,
         s.energy_measured
-    from session s
+    from session s /*sqlite indexed by session_lacking*/
     left join rule_settled r on r.station = s.station and r.transaction_id = s.transaction_id
     where s.events > 0 and not s.complete and s.state not like 'messages complete%' and r.station is null;
 
