@@ -18,6 +18,7 @@ import pytest
 
 from ocpp_board import cli
 from ocpp_board.commands import follow
+from ocpp_board.ledger import settlers
 from ocpp_board.store.database import SqliteDatabase, open_store
 from tests.store.beside import HEARTBEAT, LONGEST_WAIT, TOOL, follow_beside, message, row
 
@@ -291,6 +292,9 @@ def end_before_place(words: Sequence[str]) -> None:
     """Runs `follow` with processes that settle, and kills this one where it would note how far a log was read."""
     os.setsid()
     follow.MANY = 10
+    settlers.START = (
+        "fork"  # This process has the tests' own server of forks, whose parent it is not.
+    )
     follow.write_place = lambda *_words: os.kill(os.getpid(), signal.SIGKILL)
     os.sched_getaffinity = lambda _pid: {0, 1}
     os._exit(cli.main(words))
