@@ -40,7 +40,7 @@ from ocpp_board.commands.report import count_of
 from ocpp_board.errors import InputError, StoreError, UsageError
 from ocpp_board.escapes import shown, without_controls
 from ocpp_board.ledger.engine import settle, take_strays
-from ocpp_board.ledger.mending import count_mended, describe_mended
+from ocpp_board.ledger.mending import count_mends, describe_mends
 from ocpp_board.ledger.settlers import Settlers
 from ocpp_board.limits import GREATEST_SEQ_NO
 from ocpp_board.messages.texts import Refused
@@ -390,7 +390,7 @@ class Follow:
             answers = settle(self.store, records, also=note)
             for record, answer in zip(records, answers):
                 self.loader.note(record.station, answer)
-            self.loader.counts += count_mended(answers)
+            self.loader.counts += count_mends(answers)
 
         while not self.attempt(settle_once) and not self.is_ending:
             self.wait(TRIED)
@@ -524,7 +524,7 @@ class Follow:
             if not one.reader.has_form():
                 log.error("no line of %s is of the form %s", one.path, one.shape.name)
                 status = Status.REPORTED
-        if said := describe_mended(self.loader.counts):
+        if said := describe_mends(self.loader.counts):
             log.info("messages mended as the plan declares: %s", said)
         if self.renewer:
             pages, tables = self.renewer.pages, self.renewer.tables

@@ -6,7 +6,7 @@ from dataclasses import dataclass, field, replace
 
 from ocpp_board.commands.options import find_by_site
 from ocpp_board.ledger.engine import change_site, settle, take_strays
-from ocpp_board.ledger.mending import count_mended
+from ocpp_board.ledger.mending import count_mends
 from ocpp_board.ledger.settlers import Pending, Settlers
 from ocpp_board.records import Answer, Asked, LeftOut, Limits, Rules
 from ocpp_board.sources.script import Declaration
@@ -137,7 +137,7 @@ class Loader:
         answers = settle(self.store, asked)
         for one, answer in zip(asked, answers):
             self.note(one.station, answer)
-        self.counts += count_mended(answers)
+        self.counts += count_mends(answers)
         return answers
 
     def submit(self, asked: list[Asked]) -> None:

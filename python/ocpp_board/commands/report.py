@@ -30,7 +30,7 @@ from ocpp_board.commands.loading import Loader, Wanted
 from ocpp_board.commands.options import add_log_options, add_store, choose_program
 from ocpp_board.commands.reading import Batch, BatchReader, Meter, ReadOptions
 from ocpp_board.errors import InputError
-from ocpp_board.ledger.mending import describe_mended
+from ocpp_board.ledger.mending import describe_mends
 from ocpp_board.ledger.program import find_program
 from ocpp_board.ledger.settlers import Settlers
 from ocpp_board.ledger.verify import verify
@@ -218,7 +218,7 @@ class Report:
             "(select count(*) from session where events > 0) as sessions"
         )
         assert sites
-        mended = describe_mended(counts)
+        mended = describe_mends(counts)
         some += f"; mended as the plan declares: {mended}" if mended else ""
         return (
             f"{self.lines:,} lines read; messages: {some or 'none'}. The store has {count_of(sites.sites, 'site')}, "

@@ -17,7 +17,7 @@ from ocpp_board.store.database import open_store
 from ocpp_board.store.plan import find_rules
 from ocpp_board.store.values import compare_main
 from ocpp_board.writers.bills import bound_month, find_zone, read_month
-from ocpp_board.writers.tables import METER, write_compared
+from ocpp_board.writers.tables import METER, write_comparison
 
 
 def add_words(parser: argparse.ArgumentParser) -> None:
@@ -37,5 +37,5 @@ def run(words: argparse.Namespace) -> int:
         rows = list(compare_main(store, words.site, rules.period, bounds["begin"], bounds["end"]))
     writer = csv.writer(sys.stdout, lineterminator="\n")
     writer.writerow(METER)
-    writer.writerows(map(write_compared, rows))
+    writer.writerows(map(write_comparison, rows))
     return Status.DONE

@@ -8,7 +8,7 @@ from collections.abc import Callable, Sequence
 
 from ocpp_board.errors import StoreAway
 from ocpp_board.ledger.engine import settle
-from ocpp_board.ledger.mending import count_mended
+from ocpp_board.ledger.mending import count_mends
 from ocpp_board.messages.texts import Refused
 from ocpp_board.records import Message
 from ocpp_board.store.database import Database, open_store
@@ -83,7 +83,7 @@ class Keeper:
                 wait(AGAIN)
                 continue
             self.outcomes.update(one.outcome for one in answers)
-            self.outcomes += count_mended(answers)
+            self.outcomes += count_mends(answers)
             break
         if self.last_logged:
             self.log_once("the store answers again")

@@ -16,7 +16,7 @@ from typing import Any, BinaryIO
 from ocpp_board.errors import StoreAway
 from ocpp_board.gateway.lanes import HEAD, Fate, Request
 from ocpp_board.ledger.engine import settle
-from ocpp_board.ledger.mending import count_mended
+from ocpp_board.ledger.mending import count_mends
 from ocpp_board.records import Answer, Message
 from ocpp_board.store.database import Database, open_store
 from ocpp_board.store.lines import Warm
@@ -94,7 +94,7 @@ class Desk:
             (answer.outcome, answer.name, make_reply(answer, one.text, self.keeps_refused))
             for one, answer in zip(asked, answers)
         ]
-        return Fate.ANSWERED.value, rows, "", time.process_time() - began, count_mended(answers)
+        return Fate.ANSWERED.value, rows, "", time.process_time() - began, count_mends(answers)
 
 
 def read_batch(source: BinaryIO) -> list[Any] | None:

@@ -17,7 +17,7 @@ from typing import Any, NamedTuple
 from ocpp_board.errors import InputError
 from ocpp_board.ledger.answers import Wish
 from ocpp_board.ledger.course import Course
-from ocpp_board.ledger.mending import mend_asked, note_mends
+from ocpp_board.ledger.mending import mend_messages, note_mends
 from ocpp_board.ledger.program import find_program
 from ocpp_board.ledger.quotas import (
     FLOODS,
@@ -122,7 +122,7 @@ def settle(
     what this process stored last; `guard`: is held together with a SQLite file, where several processes settle at once,
     and all that can be is computed before; `apart`: gets what is counted, which the caller writes.
     """
-    put = mend_asked(store, asked, warm)
+    put = mend_messages(store, asked, warm)
     batch = Batch(put.asked, ask_program(put.asked))
     sort_asked(batch)
     find_strangers(store, batch)
@@ -260,7 +260,7 @@ def write_batch(
         if is_unmeasured(done):
             unmeasured.add(key)
     writer.write()
-    counted = Counted(list_refusals(store, batch), list_decided(batch), list_strays(batch))
+    counted = Counted(list_refusals(store, batch), list_decisions(batch), list_strays(batch))
     if apart is None:
         counted.write(store)
     else:
@@ -591,7 +591,7 @@ def list_refusals(store: Database, batch: Batch) -> list[dict[str, Any]]:
     return rows
 
 
-def list_decided(batch: Batch) -> list[dict[str, Any]]:
+def list_decisions(batch: Batch) -> list[dict[str, Any]]:
     """Which texts that waited for a decision were taken."""
     now = datetime.now(timezone.utc)
     return [one._asdict() | {"at": now, "who": "", "why": ""} for one in batch.decided]
@@ -644,8 +644,8 @@ def write_mended(store: Database, batch: Batch) -> None:
 
 
 def write_levels(store: Database, batch: Batch, sites: dict[str, str]) -> set[Key]:
-    """Adds what registers read in MeterValues outside transactions, and gives the transactions of which they may say
-    more than readings do."""
+    """Adds what registers read in MeterValues outside transactions, and gives the transactions that they may say
+    more of than readings do."""
     found, near = dict[tuple[str, int], list[tuple[datetime, int]]](), set[Key]()
     for one in batch.others:
         evse, levels = read_levels(one.text) if one.station in sites else (0, [])

@@ -69,7 +69,7 @@ def find_mends(store: Database, warm: Warm | None) -> Mends:
     return mends
 
 
-def mend_asked(store: Database, asked: Sequence[Asked], warm: Warm | None = None) -> Put:
+def mend_messages(store: Database, asked: Sequence[Asked], warm: Warm | None = None) -> Put:
     """What is settled in place of what is asked: messages of sites that declare mends are mended. `warm`: what this
     process keeps of the store. Raises StoreError."""
     mends = find_mends(store, warm)
@@ -108,14 +108,14 @@ def note_mends(asked: Sequence[Asked], answers: Sequence[Answer], put: Put) -> N
         place += count
 
 
-def count_mended(answers: Iterable[Answer]) -> Counter[str]:
+def count_mends(answers: Iterable[Answer]) -> Counter[str]:
     """How many messages were mended, by fault."""
     return Counter(
         f"{MENDED}{fault}" for one in answers if one.mends for fault in one.mends.split(",")
     )
 
 
-def describe_mended(counts: Counter[str]) -> str:
+def describe_mends(counts: Counter[str]) -> str:
     """How many messages were mended, for a reader; empty where none was."""
     some = sorted((name, count) for name, count in counts.items() if name.startswith(MENDED))
     return ", ".join(f"{name.removeprefix(MENDED)} {count:,}" for name, count in some)

@@ -143,7 +143,7 @@ class Spans:
             )
 
     def share_intervals(self) -> Shares:
-        """What periods get of interval values, each of which is of the time since the one before, or since the
+        """What periods get of interval values. Each is of the time since the one before, or since the
         start."""
         found = dict[int, int]()
         if self.intervals and self.of_events:

@@ -12,7 +12,7 @@ from zlib import crc32
 
 from ocpp_board.errors import StoreAway
 from ocpp_board.ledger.engine import settle
-from ocpp_board.ledger.mending import count_mended
+from ocpp_board.ledger.mending import count_mends
 from ocpp_board.processes import end_with_parent, leave_interrupts, pause_collector
 from ocpp_board.records import Asked, Deed, Message, Untaken
 from ocpp_board.store.database import Database, open_store
@@ -46,7 +46,7 @@ def settle_own(packed: Packed, apart: Counted | None) -> Part:
     with pause_collector():
         asked = [KINDS[place]._make(values) for place, values in packed]
         answers = settle(Settler.store, asked, guard=Settler.guard, apart=apart)
-        return Counter(one.outcome for one in answers) + count_mended(answers), apart
+        return Counter(one.outcome for one in answers) + count_mends(answers), apart
 
 
 class Pending:

@@ -97,7 +97,7 @@ create view one_meter as
             or s.last_at >= b.last_at and s.last_register >= b.last_register);
 
 -- The greatest power of each transaction beside that of those next to it at its station, the 20 before it and the 20
--- behind it, of which there are 19 at least: `usual` is what nine of ten of them do not exceed, where it is less than
+-- behind it, if there are 19 at least: `usual` is what nine of ten of them do not exceed, where it is less than
 -- half of this one's, and 11 kW less; null where it is not.
 create view power_step as
     select p.site, p.station, p.transaction_id, p.began, p.last_day, p.first_at, p.peak_w, (

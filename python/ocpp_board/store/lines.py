@@ -438,8 +438,8 @@ def make_insert(
     rows: Sequence[Values],
     compared: Sequence[str] = (),
 ) -> Insert:
-    """Rows that are inserted, or whose columns beside the keys are written where they are there. `compared`: the
-    columns of which one has to differ for that."""
+    """Rows that are inserted, or whose columns beside the keys are written where they are there. `compared`: one
+    of these columns has to differ for that."""
     changes = ", ".join(f"{name} = excluded.{name}" for name in columns if name not in keys)
     more = f"on conflict ({', '.join(keys)}) do update set {changes}"
     if compared:
@@ -449,7 +449,7 @@ def make_insert(
 
 
 def insert_all(store: Database, inserts: Sequence[Insert]) -> None:
-    """Writes rows of tables, each of which comes once: in PostgreSQL by one statement, since each one costs more than
+    """Writes rows of tables, each table once: in PostgreSQL by one statement, since each one costs more than
     its rows."""
     if isinstance(store, SqliteDatabase):
         for one in inserts:

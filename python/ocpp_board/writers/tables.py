@@ -202,7 +202,7 @@ def write_utc(at: datetime | None) -> str:
     return at.strftime(MOMENT) if at else ""
 
 
-def write_compared(one: Compared) -> list[Cell]:
+def write_comparison(one: Compared) -> list[Cell]:
     """The cells of a period of a main meter."""
     return [write_utc(one.starts), *map(write_kwh, (one.main, one.taken, one.losses))]
 
@@ -587,7 +587,7 @@ class SiteTables:
             return write_some(self.path("site_meter"), METER, ())
         begin = span[0] - timedelta(seconds=span[0].timestamp() % seconds)
         rows = compare_main(self.store, self.site.site, seconds, begin, span[1])
-        return write_some(self.path("site_meter"), METER, map(write_compared, rows))
+        return write_some(self.path("site_meter"), METER, map(write_comparison, rows))
 
     def write_mend(self, row: Row) -> list[Cell]:
         """The cells of a mended message."""
@@ -789,7 +789,7 @@ def write_figures(up: int, down: int, export_up: int, export_down: int) -> str:
 
 
 def name_figure(estimated: int, by_values: int) -> str:
-    """How a figure was come by of which so many parts are estimated, and so many of these by meter values."""
+    """How a figure was come by: so many of its parts are estimated, and so many of these by meter values."""
     if not estimated:
         return "measured"
     return BY_VALUES if by_values == estimated else ESTIMATED

@@ -16,7 +16,7 @@ from ocpp_board.writers.pages.cells import (
 )
 from ocpp_board.writers.pages.context import Context
 from ocpp_board.writers.pages.facts import Closing, Correction, Settled, Site
-from ocpp_board.writers.pages.sessions import write_measured
+from ocpp_board.writers.pages.sessions import write_measurement
 from ocpp_board.writers.tables import ESTIMATED
 
 # Corrections and sessions that a page shows.
@@ -87,7 +87,7 @@ def make_settled_row(context: Context, site: Site, one: Settled) -> TableRow:
             link(links.station(site.name, one.station), one.station),
             "messages complete" if one.settled == "complete" else "by rule",
             kwh(one.flow.net),
-            write_measured(one, calendar),
+            write_measurement(one, calendar),
             kwh(one.flow.net + one.adjusted) if one.adjusted else UNKNOWN,
             f"{one.findings:,}",
             f"{one.holds:,}",

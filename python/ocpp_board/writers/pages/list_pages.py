@@ -32,7 +32,7 @@ from ocpp_board.writers.pages.facts import (
     StationSummary,
 )
 from ocpp_board.writers.pages.kinds import explain, find_place
-from ocpp_board.writers.pages.sessions import write_measured
+from ocpp_board.writers.pages.sessions import write_measurement
 from ocpp_board.writers.pages.site_pages import (
     has_export,
     make_station_columns,
@@ -173,7 +173,7 @@ def list_silent(context: Context, site: Site, _stations: Stations, first: int) -
         site.name, context.find_silent(), LIST_ROWS + 1, first
     ):
         cells = [*write_lacking(context, site, one, heard_at), kwh(one.flow.up - one.flow.down)]
-        rows.append(TableRow([*cells, write_measured(one, calendar)], MARK))
+        rows.append(TableRow([*cells, write_measurement(one, calendar)], MARK))
     return Listing(SILENT, *split(rows))
 
 
@@ -282,7 +282,7 @@ LISTS = {
     ),
     "silent": ListKind(
         "Silent sessions",
-        "Sessions that lack messages and of which nothing came for some time ({hours} hours): ask their stations by "
+        "Sessions that lack messages and sent nothing for some time ({hours} hours): ask their stations by "
         "GetTransactionStatus. The latest first.",
         "No session that lacks messages is silent for {hours} hours.",
         list_silent,

@@ -379,7 +379,7 @@ class Reader:
     def silent(
         self, site: str, before: datetime, count: int, skipped: int = 0
     ) -> list[tuple[SessionFacts, datetime]]:
-        """The sessions of a site that lack messages and of which nothing came since a moment, and when something came
+        """The sessions of a site that lack messages and sent nothing since a moment, and when something came
         last; the latest first."""
         columns = ", ".join(f"s.{name}" for name in SESSION.split(", "))
         sql = (

@@ -45,7 +45,7 @@ def write_finding(one: Found) -> Markup:
     return join([flag(one.kind + times), *([one.detail] if one.detail else [])], ": ")
 
 
-def write_measured(session: SessionFacts | Settled, calendar: Calendar) -> str:
+def write_measurement(session: SessionFacts | Settled, calendar: Calendar) -> str:
     """Writes whether the energy of a session is measured: yes, from when to when only, or no."""
     if session.energy_measured != "part":
         return session.energy_measured
@@ -58,7 +58,7 @@ def write_measured(session: SessionFacts | Settled, calendar: Calendar) -> str:
 def write_state(session: SessionFacts, findings: Sequence[Found], calendar: Calendar) -> Markup:
     """Writes whether all messages of a session came, which lack, whether its energy is measured, and what is
     doubtful."""
-    measured = join(["energy measured", write_measured(session, calendar)], ": ")
+    measured = join(["energy measured", write_measurement(session, calendar)], ": ")
     doubts = [measured, *(write_finding(one) for one in findings)]
     if not session.gaps:
         return stack(session.state or "no event counts", *doubts)
